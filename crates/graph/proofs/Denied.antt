@@ -39,12 +39,13 @@ records g kind x h =
     let h₁ = past one _ _ h in
     let h₂ = past two _ _ h₁ in
     let h₃ = past (allows kind (x .mode)) _ _ h₂ in
-    record
-      { some-thread = leb→le 1 (x .thread) (left (leb 1 (x .thread)) _ (passed one _ _ h))
-      ; its-thread = leb→le (x .thread) (g .threads) (right (leb 1 (x .thread)) _ (passed one _ _ h))
-      ; its-location = passed two _ _ h₁
-      ; its-mode = passed (allows kind (x .mode)) _ _ h₂
-      ; room = ltb→lt (length (g .events)) 256 (passed (ltb (length (g .events)) 256) _ _ h₃) }
+    record {
+      some-thread = leb→le 1 (x .thread) (left (leb 1 (x .thread)) _ (passed one _ _ h));
+      its-thread = leb→le (x .thread) (g .threads) (right (leb 1 (x .thread)) _ (passed one _ _ h));
+      its-location = passed two _ _ h₁;
+      its-mode = passed (allows kind (x .mode)) _ _ h₂;
+      room = ltb→lt (length (g .events)) 256 (passed (ltb (length (g .events)) 256) _ _ h₃);
+    }
 
 pub record Links (g : Content) (r w : ℕ) : Type 0 where
   pub read-stands : r < length (g .events)
@@ -64,14 +65,15 @@ links g r w h =
     let h₄ = past (is-write (label-of g w)) _ _ h₃ in
     let h₅ = past (same-location g w r) _ _ h₄ in
     let h₆ = past value _ _ h₅ in
-    record
-      { read-stands = ltb→lt r (length (g .events)) (passed (stands g r) _ _ h)
-      ; source-stands = ltb→lt w (length (g .events)) (passed (stands g w) _ _ h₁)
-      ; reads = passed (is-read (label-of g r)) _ _ h₂
-      ; writes = passed (is-write (label-of g w)) _ _ h₃
-      ; there = passed (same-location g w r) _ _ h₄
-      ; value = passed value _ _ h₅
-      ; fresh = passed (not (isSome (source-of g r))) _ _ h₆ }
+    record {
+      read-stands = ltb→lt r (length (g .events)) (passed (stands g r) _ _ h);
+      source-stands = ltb→lt w (length (g .events)) (passed (stands g w) _ _ h₁);
+      reads = passed (is-read (label-of g r)) _ _ h₂;
+      writes = passed (is-write (label-of g w)) _ _ h₃;
+      there = passed (same-location g w r) _ _ h₄;
+      value = passed value _ _ h₅;
+      fresh = passed (not (isSome (source-of g r))) _ _ h₆;
+    }
 
 pub record Places (g : Content) (w v : ℕ) : Type 0 where
   pub write-stands : w < length (g .events)
@@ -89,10 +91,11 @@ places g w v h =
     let h₄ = past (is-write (label-of g v)) _ _ h₃ in
     let h₅ = past (same-location g v w) _ _ h₄ in
     let h₆ = past (not (holds (g .placed) w)) _ _ h₅ in
-    record
-      { write-stands = ltb→lt w (length (g .events)) (passed (stands g w) _ _ h)
-      ; after-stands = ltb→lt v (length (g .events)) (passed (stands g v) _ _ h₁)
-      ; writes = passed (is-write (label-of g w)) _ _ h₂
-      ; there = passed (same-location g v w) _ _ h₄
-      ; new = yes-no (holds (g .placed) w) (passed (not (holds (g .placed) w)) _ _ h₅)
-      ; placed = passed (holds (g .placed) v) _ _ h₆ }
+    record {
+      write-stands = ltb→lt w (length (g .events)) (passed (stands g w) _ _ h);
+      after-stands = ltb→lt v (length (g .events)) (passed (stands g v) _ _ h₁);
+      writes = passed (is-write (label-of g w)) _ _ h₂;
+      there = passed (same-location g v w) _ _ h₄;
+      new = yes-no (holds (g .placed) w) (passed (not (holds (g .placed) w)) _ _ h₅);
+      placed = passed (holds (g .placed) v) _ _ h₆;
+    }

@@ -1,10 +1,11 @@
 -- The front of a table: what stands there, and what a write makes of it.
 use Prim.Native.Nat.{ℕ, zero, suc, _+_, _<_, _≤_}
 use mathlib.Core.Path.{_≡_, refl, sym, ap, ap₂, _∙_}
-use mathlib.Core.Bool.{Bool, true, false, cond}
+use mathlib.Core.Bool.{Bool, true, false, not, cond}
 use mathlib.Core.List.{List, [], _∷_, _++_}
 use native.Mathlib.Omega.{arith}
-use lib.ListN.{length, getD, take, set, length-set}
+use mathlib.Core.Logic.{_⊎_, inl, inr}
+use lib.ListN.{length, getD, take, set, length-set, List·getD-eq-default}
 use lib.Seq.{length-take-le, getD-take, take-suc, take-set-le, getD-set-same}
 use native.Mathlib.Numerals.{add-one}
 use lib.Dec.{ltb, ltb→lt}
@@ -13,12 +14,13 @@ use Rattle.std.specs.declared.option.Option.the-variants.{Some, None}
 use Rattle.graph.specs.declared.event.Event.{Event}
 use Rattle.graph.specs.declared.event.Label.{Label}
 use Rattle.graph.specs.declared.tables.Graph.{Graph}
-use Rattle.graph.specs.Labels.{no-event}
-use Rattle.graph.specs.Content.{label-of, source-of}
+use Rattle.graph.specs.Labels.{no-event, is-write}
+use Rattle.graph.specs.Lists.{holds}
+use Rattle.graph.specs.Content.{Content, label-of, source-of, is-open}
 use Rattle.graph.specs.Entries.{stands}
 use Rattle.graph.specs.View.{view}
 use Rattle.graph.proofs.Tests.{truth}
-use Rattle.std.proofs.shelf.Tests.{lt-ltb}
+use Rattle.std.proofs.shelf.Tests.{lt-ltb, cases-lt}
 
 -- what stands at an index, at any default
 getD-same : {A : Type 0} (xs : List A) (i : ℕ) (d e : A) → i < length xs → getD xs i d ≡ getD xs i e
@@ -63,3 +65,17 @@ stood g a x l e = omega (arith, length-take-le (g .count) (g .events) l, ltb→l
 -- the source of an event of the tables
 pub source-at : (g : Graph) (a : ℕ) → g .count ≤ length (g .sources) → a < g .count → source-of (view g) a ≡ getD (g .sources) a None
 source-at g a l k = front-at (g .sources) (g .count) a None None l k
+
+-- a write that stands is open where it has no place
+pub open-by : (g : Content) (a : ℕ) (x : Label) (placed absent : Bool) → Some x ≡ cond (stands g a) (Some (label-of g a)) None → true ≡ is-write x → holds (g .placed) a ≡ placed → placed ≡ not absent → absent ≡ is-open g a
+open-by g a x placed absent e w h n = by (stands g a) absent e
+  where
+    by : (b c : Bool) → Some x ≡ cond b (Some (label-of g a)) None → absent ≡ is-open g a
+    by true c i = let same : x ≡ label-of g a = cc in let writes : is-write (label-of g a) ≡ true = cc in let placed-so : holds (g .placed) a ≡ not absent = cc in grind arith
+    by false c i = let z : _≡_ {A = ℕ} 0 1 = cc in absurd (omega arith)
+
+-- what does not stand is not open
+pub not-open-by : (g : Content) (a : ℕ) → None ≡ cond (stands g a) (Some (label-of g a)) None → false ≡ is-open g a
+not-open-by g a e = elim (cases-lt a (length (g .events)))
+  [ inl l ↦ let there : stands g a ≡ true = lt-ltb a (length (g .events)) l in let z : _≡_ {A = ℕ} 0 1 = cc in absurd (omega arith)
+  | inr l ↦ let gone : getD (g .events) a no-event ≡ no-event = List·getD-eq-default (g .events) no-event l in cc ]

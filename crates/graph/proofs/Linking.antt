@@ -39,13 +39,14 @@ module _ (g : Content) (sg : Sound g) (r w : ℕ) (fits : denial g (link r w) �
   fresh v h = unlinked (source-of g r) v (fine .fresh) h
 
   pub link-within : Within g joined
-  link-within = record
-    { threads = refl
-    ; locations = refl
-    ; count = omega arith
-    ; events = λ a l. refl
-    ; links = λ v q h. elim (cases-eq q r) [ inl i ↦ absurd (fresh v (subst (λ x. T (rf g v x)) i h)) | inr n ↦ subst (λ o. T (agree o (Some v))) (others q n) h ]
-    ; order = λ a b h. h }
+  link-within = record {
+    threads = refl;
+    locations = refl;
+    count = omega arith;
+    events = λ a l. refl;
+    links = λ v q h. elim (cases-eq q r) [ inl i ↦ absurd (fresh v (subst (λ x. T (rf g v x)) i h)) | inr n ↦ subst (λ o. T (agree o (Some v))) (others q n) h ];
+    order = λ a b h. h;
+  }
 
   new-link : (v : ℕ) → w ≡ v → Linked joined v r
   new-link v i = subst (λ x. Linked joined x r) i (record { reads = fine .reads; writes = fine .writes; there = fine .there; value = fine .value })
@@ -54,20 +55,22 @@ module _ (g : Content) (sg : Sound g) (r w : ℕ) (fits : denial g (link r w) �
   old-link v q k = record { reads = k .reads; writes = k .writes; there = k .there; value = k .value }
 
   pub link-sound : Sound joined
-  link-sound = record
-    { some-thread = sg .some-thread
-    ; few-threads = sg .few-threads
-    ; some-location = sg .some-location
-    ; few-locations = sg .few-locations
-    ; few-events = sg .few-events
-    ; opened = sg .opened
-    ; aligned = length-set (g .sources) r (Some w) ∙ sg .aligned
-    ; initial-writes = sg .initial-writes
-    ; recorded = λ a l k. record { some-thread = sg .recorded a l k .some-thread; its-thread = sg .recorded a l k .its-thread; its-location = sg .recorded a l k .its-location; its-mode = sg .recorded a l k .its-mode }
-    ; linked = λ v q h. elim (cases-eq q r)
-        [ inl i ↦ subst (λ x. Linked joined v x) (sym i) (new-link v (eqb→eq w v (subst (λ o. T (agree o (Some v))) now-linked (subst (λ x. T (rf joined v x)) i h))))
-        | inr n ↦ old-link v q (sg .linked v q (subst (λ o. T (agree o (Some v))) (sym (others q n)) h)) ]
-    ; placed-writes = sg .placed-writes
-    ; placed-once = sg .placed-once
-    ; initial-placed = sg .initial-placed
-    ; initial-first = sg .initial-first }
+  link-sound = record {
+    some-thread = sg .some-thread;
+    few-threads = sg .few-threads;
+    some-location = sg .some-location;
+    few-locations = sg .few-locations;
+    few-events = sg .few-events;
+    opened = sg .opened;
+    aligned = length-set (g .sources) r (Some w) ∙ sg .aligned;
+    initial-writes = sg .initial-writes;
+    recorded = λ a l k. record { some-thread = sg .recorded a l k .some-thread; its-thread = sg .recorded a l k .its-thread; its-location = sg .recorded a l k .its-location; its-mode = sg .recorded a l k .its-mode };
+    linked = λ v q h. elim (cases-eq q r) [
+      | inl i ↦ subst (λ x. Linked joined v x) (sym i) (new-link v (eqb→eq w v (subst (λ o. T (agree o (Some v))) now-linked (subst (λ x. T (rf joined v x)) i h))))
+      | inr n ↦ old-link v q (sg .linked v q (subst (λ o. T (agree o (Some v))) (sym (others q n)) h))
+    ];
+    placed-writes = sg .placed-writes;
+    placed-once = sg .placed-once;
+    initial-placed = sg .initial-placed;
+    initial-first = sg .initial-first;
+  }

@@ -106,6 +106,7 @@ upto-length (suc n) = let ih = upto-length n in omega (arith, length-append (upt
 
 pub upto-at : (n a : ℕ) → a < n → getD (upto n) a 0 ≡ a
 upto-at zero a h = absurd (omega arith)
-upto-at (suc n) a h = elim (cases-lt a n)
-  [ inl l ↦ List·getD-append (upto n) (n ∷ []) 0 a (omega (arith, upto-length n)) ∙ upto-at n a l
-  | inr l ↦ let e : a ≡ length (upto n) = omega (arith, upto-length n) in ap (λ i. getD (upto (suc n)) i 0) e ∙ getD-append-seam (upto n) n [] 0 ∙ omega arith ]
+upto-at (suc n) a h = elim (cases-lt a n) [
+  | inl l ↦ List·getD-append (upto n) (n ∷ []) 0 a (omega (arith, upto-length n)) ∙ upto-at n a l
+  | inr l ↦ let e : a ≡ length (upto n) = omega (arith, upto-length n) in ap (λ i. getD (upto (suc n)) i 0) e ∙ getD-append-seam (upto n) n [] 0 ∙ omega arith
+]

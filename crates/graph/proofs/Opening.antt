@@ -45,18 +45,19 @@ module _ (threads n : ℕ) where
   apart l w j k h = eqb→eq l w (subst (λ (e : Event). T (one-location (e .label) (initial-write w .label))) (opening-at l j) (subst (λ (e : Event). T (one-location (label-of g l) (e .label))) (opening-at w k) h))
 
   pub opening-sound : 1 ≤ threads → threads ≤ 16 → 1 ≤ n → n ≤ 16 → Sound g
-  opening-sound lt ut ln un = record
-    { some-thread = lt
-    ; few-threads = ut
-    ; some-location = ln
-    ; few-locations = un
-    ; few-events = omega (arith, opening-count)
-    ; opened = omega (arith, opening-count)
-    ; aligned = length-replicate n None ∙ sym opening-count
-    ; initial-writes = opening-at
-    ; recorded = λ a l k. absurd (omega (arith, opening-count))
-    ; linked = λ w r h. absurd (unlinked w r h)
-    ; placed-writes = λ w h. subst (λ (e : Event). T (is-write (e .label))) (sym (opening-at w (upto-below n w h))) tt
-    ; placed-once = upto-distinct n
-    ; initial-placed = below-upto n
-    ; initial-first = λ l w k h s ne. absurd (ne (apart l w k (upto-below n w h) s)) }
+  opening-sound lt ut ln un = record {
+    some-thread = lt;
+    few-threads = ut;
+    some-location = ln;
+    few-locations = un;
+    few-events = omega (arith, opening-count);
+    opened = omega (arith, opening-count);
+    aligned = length-replicate n None ∙ sym opening-count;
+    initial-writes = opening-at;
+    recorded = λ a l k. absurd (omega (arith, opening-count));
+    linked = λ w r h. absurd (unlinked w r h);
+    placed-writes = λ w h. subst (λ (e : Event). T (is-write (e .label))) (sym (opening-at w (upto-below n w h))) tt;
+    placed-once = upto-distinct n;
+    initial-placed = below-upto n;
+    initial-first = λ l w k h s ne. absurd (ne (apart l w k (upto-below n w h) s));
+  }

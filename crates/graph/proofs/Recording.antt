@@ -71,59 +71,65 @@ module _ (g : Content) (sg : Sound g) (kind : Kind) (x : Arguments) (fits : deni
   old-location a b l k = ap₂ one-location (old-label a l) (old-label b k)
 
   pub record-within : Within g more
-  record-within = record
-    { threads = refl
-    ; locations = refl
-    ; count = omega (arith, length-append (g .events) (new ∷ []))
-    ; events = old
-    ; links = λ w r h. subst (λ s. T (agree s (Some w))) (sym (List·getD-append (g .sources) (None ∷ []) None r (link-among g w r h))) h
-    ; order = λ a b h. let n = mo-among g sg a b h in both (same-location more a b) (precedes (g .placed) a b) (subst T (old-location a b (n .0) (n .1)) (left (same-location g a b) (precedes (g .placed) a b) h)) (right (same-location g a b) (precedes (g .placed) a b) h) }
+  record-within = record {
+    threads = refl;
+    locations = refl;
+    count = omega (arith, length-append (g .events) (new ∷ []));
+    events = old;
+    links = λ w r h. subst (λ s. T (agree s (Some w))) (sym (List·getD-append (g .sources) (None ∷ []) None r (link-among g w r h))) h;
+    order = λ a b h. let n = mo-among g sg a b h in both (same-location more a b) (precedes (g .placed) a b) (subst T (old-location a b (n .0) (n .1)) (left (same-location g a b) (precedes (g .placed) a b) h)) (right (same-location g a b) (precedes (g .placed) a b) h);
+  }
 
   old-link : (w r : ℕ) → T (rf more w r) → T (rf g w r)
   old-link w r h = subst (λ s. T (agree s (Some w))) (padded (g .sources) r) h
 
   old-recorded : (a : ℕ) → a < length (g .events) → Recorded g a → Recorded more a
-  old-recorded a l k = record
-    { some-thread = subst (λ (e : Event). 1 ≤ e .thread) (old a l) (k .some-thread)
-    ; its-thread = subst (λ (e : Event). e .thread ≤ g .threads) (old a l) (k .its-thread)
-    ; its-location = subst (λ (e : Event). (l : ℕ) → location (e .label) ≡ Some l → l < g .locations) (old a l) (k .its-location)
-    ; its-mode = subst (λ (e : Event). T (allows (kind-of (e .label)) (mode-number (mode-of (e .label))))) (old a l) (k .its-mode) }
+  old-recorded a l k = record {
+    some-thread = subst (λ (e : Event). 1 ≤ e .thread) (old a l) (k .some-thread);
+    its-thread = subst (λ (e : Event). e .thread ≤ g .threads) (old a l) (k .its-thread);
+    its-location = subst (λ (e : Event). (l : ℕ) → location (e .label) ≡ Some l → l < g .locations) (old a l) (k .its-location);
+    its-mode = subst (λ (e : Event). T (allows (kind-of (e .label)) (mode-number (mode-of (e .label))))) (old a l) (k .its-mode);
+  }
 
   new-recorded : (a : ℕ) → a ≡ length (g .events) → Recorded more a
-  new-recorded a i = record
-    { some-thread = subst (λ (e : Event). 1 ≤ e .thread) here (fine .some-thread)
-    ; its-thread = subst (λ (e : Event). e .thread ≤ g .threads) here (fine .its-thread)
-    ; its-location = subst (λ (e : Event). (l : ℕ) → location (e .label) ≡ Some l → l < g .locations) here (λ l e. its-location kind x (g .locations) l (fine .its-location) e)
-    ; its-mode = subst (λ (e : Event). T (allows (kind-of (e .label)) (mode-number (mode-of (e .label))))) here (its-mode kind x (fine .its-mode)) }
+  new-recorded a i = record {
+    some-thread = subst (λ (e : Event). 1 ≤ e .thread) here (fine .some-thread);
+    its-thread = subst (λ (e : Event). e .thread ≤ g .threads) here (fine .its-thread);
+    its-location = subst (λ (e : Event). (l : ℕ) → location (e .label) ≡ Some l → l < g .locations) here (λ l e. its-location kind x (g .locations) l (fine .its-location) e);
+    its-mode = subst (λ (e : Event). T (allows (kind-of (e .label)) (mode-number (mode-of (e .label))))) here (its-mode kind x (fine .its-mode));
+  }
     where
       here : new ≡ getD (more .events) a no-event
       here = sym (rw i (getD-append-seam (g .events) new [] no-event))
 
   old-linked : (w r : ℕ) → Linked g w r → Linked more w r
-  old-linked w r k = record
-    { reads = subst (λ l. T (is-read l)) (old-label r m) (k .reads)
-    ; writes = subst (λ l. T (is-write l)) (old-label w n) (k .writes)
-    ; there = subst T (old-location w r n m) (k .there)
-    ; value = subst T (ap₂ (λ (a b : Label). agree (value-written a) (value-read b)) (old-label w n) (old-label r m)) (k .value) }
+  old-linked w r k = record {
+    reads = subst (λ l. T (is-read l)) (old-label r m) (k .reads);
+    writes = subst (λ l. T (is-write l)) (old-label w n) (k .writes);
+    there = subst T (old-location w r n m) (k .there);
+    value = subst T (ap₂ (λ (a b : Label). agree (value-written a) (value-read b)) (old-label w n) (old-label r m)) (k .value);
+  }
     where
       m : r < length (g .events)
       m = read-among g r (k .reads)
+
       n : w < length (g .events)
       n = write-among g w (k .writes)
 
   pub record-sound : Sound more
-  record-sound = record
-    { some-thread = sg .some-thread
-    ; few-threads = sg .few-threads
-    ; some-location = sg .some-location
-    ; few-locations = sg .few-locations
-    ; few-events = omega (arith, length-append (g .events) (new ∷ []), fine .room)
-    ; opened = omega (arith, sg .opened, length-append (g .events) (new ∷ []))
-    ; aligned = simp length-append (ap (λ n. n + 1) (sg .aligned))
-    ; initial-writes = λ l k. sym (old l (omega (arith, sg .opened))) ∙ sg .initial-writes l k
-    ; recorded = λ a l k. elim (cases-lt a (length (g .events))) [ inl b ↦ old-recorded a b (sg .recorded a l b) | inr b ↦ new-recorded a (omega (arith, length-append (g .events) (new ∷ []))) ]
-    ; linked = λ w r h. old-linked w r (sg .linked w r (old-link w r h))
-    ; placed-writes = λ w h. subst (λ l. T (is-write l)) (old-label w (placed-among g sg w h)) (sg .placed-writes w h)
-    ; placed-once = sg .placed-once
-    ; initial-placed = sg .initial-placed
-    ; initial-first = λ l w k h s n. sg .initial-first l w k h (subst T (sym (old-location l w (omega (arith, sg .opened)) (placed-among g sg w h))) s) n }
+  record-sound = record {
+    some-thread = sg .some-thread;
+    few-threads = sg .few-threads;
+    some-location = sg .some-location;
+    few-locations = sg .few-locations;
+    few-events = omega (arith, length-append (g .events) (new ∷ []), fine .room);
+    opened = omega (arith, sg .opened, length-append (g .events) (new ∷ []));
+    aligned = simp length-append (ap (λ n. n + 1) (sg .aligned));
+    initial-writes = λ l k. sym (old l (omega (arith, sg .opened))) ∙ sg .initial-writes l k;
+    recorded = λ a l k. elim (cases-lt a (length (g .events))) [ inl b ↦ old-recorded a b (sg .recorded a l b) | inr b ↦ new-recorded a (omega (arith, length-append (g .events) (new ∷ []))) ];
+    linked = λ w r h. old-linked w r (sg .linked w r (old-link w r h));
+    placed-writes = λ w h. subst (λ l. T (is-write l)) (old-label w (placed-among g sg w h)) (sg .placed-writes w h);
+    placed-once = sg .placed-once;
+    initial-placed = sg .initial-placed;
+    initial-first = λ l w k h s n. sg .initial-first l w k h (subst T (sym (old-location l w (omega (arith, sg .opened)) (placed-among g sg w h))) s) n;
+  }

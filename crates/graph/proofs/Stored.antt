@@ -68,8 +68,8 @@ module _ (g : Graph) (kind : Kind) (x : Arguments) (fits : None ≡ denial (view
 
   pub record-stored : (l : Label) → l ≡ labelled kind x → entered (view g) (record-event kind x) ≡ content (g .threads) (g .locations) (set (g .events) (g .count) (record { thread = x .thread; label = l })) (g .count + 1) (set (g .sources) (g .count) None) (g .placed) (g .standing)
   record-stored l i = ap₂ (λ (es : List Event) (ss : List (Option ℕ)). record { threads = g .threads; locations = g .locations; events = es; sources = ss; placed = take (g .standing) (g .placed) })
-    (ap (λ (y : Label). take (g .count) (g .events) ++ (record { thread = x .thread; label = y } ∷ [])) (sym i) ∙ sym (front-push (g .events) (g .count) (record { thread = x .thread; label = l }) (omega (arith, g .long, record-room))))
-    (sym (front-push (g .sources) (g .count) None (omega (arith, g .long, record-room))))
+      (ap (λ (y : Label). take (g .count) (g .events) ++ (record { thread = x .thread; label = y } ∷ [])) (sym i) ∙ sym (front-push (g .events) (g .count) (record { thread = x .thread; label = l }) (omega (arith, g .long, record-room))))
+      (sym (front-push (g .sources) (g .count) None (omega (arith, g .long, record-room))))
 
 module _ (g : Graph) (r w : ℕ) (fits : None ≡ denial (view g) (link r w)) where
   link-passed : Links (view g) r w
@@ -93,10 +93,10 @@ module _ (g : Graph) (w v : ℕ) (fits : None ≡ denial (view g) (place w v)) w
   place-room =
       let s = sound-of g in
       let all : length (w ∷ view g .placed) ≤ length (view g .events) = few-distinct (length (view g .events)) (w ∷ view g .placed)
-            (both (not (holds (view g .placed) w)) _ (no (holds (view g .placed) w) (place-passed .new)) (s .placed-once))
-            (λ a h. elim (either (eqb w a) _ h) [ inl i ↦ subst (λ (x : ℕ). x < length (view g .events)) (eqb→eq w a i) (place-passed .write-stands) | inr i ↦ placed-among (view g) s a i ]) in
+      (both (not (holds (view g .placed) w)) _ (no (holds (view g .placed) w) (place-passed .new)) (s .placed-once))
+      (λ a h. elim (either (eqb w a) _ h) [ inl i ↦ subst (λ (x : ℕ). x < length (view g .events)) (eqb→eq w a i) (place-passed .write-stands) | inr i ↦ placed-among (view g) s a i ]) in
       omega (arith, all, s .few-events, length-take-le (g .standing) (g .placed) (omega (arith, g .long, g .few)))
 
   pub place-stored : (i : ℕ) (ps : List ℕ) → First-at (view g .placed) v i → take (g .standing + 1) ps ≡ inserted (take (g .standing) (g .placed)) (i + 1) w → entered (view g) (place w v) ≡ content (g .threads) (g .locations) (g .events) (g .count) (g .sources) ps (g .standing + 1)
   place-stored i ps f e = ap (λ (qs : List ℕ). record { threads = g .threads; locations = g .locations; events = take (g .count) (g .events); sources = take (g .count) (g .sources); placed = qs })
-    (sym (e ∙ ap (λ (n : ℕ). inserted (take (g .standing) (g .placed)) n w) (add-one i) ∙ behind-is-after v w (take (g .standing) (g .placed)) i f))
+      (sym (e ∙ ap (λ (n : ℕ). inserted (take (g .standing) (g .placed)) n w) (add-one i) ∙ behind-is-after v w (take (g .standing) (g .placed)) i f))

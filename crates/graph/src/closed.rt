@@ -1,7 +1,7 @@
 ghost use mathlib.Core.Path.{_≡_};
 use crate::tables::Graph;
 
-// A graph that takes no more entries.
+/// A graph that takes no more entries.
 #[derive(Drop)]
 pub struct Closed {
     graph: Graph,

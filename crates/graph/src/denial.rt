@@ -1,7 +1,7 @@
 ghost use mathlib.Core.Path.{_≡_};
 ghost use Rattle.graph.specs.Denials.{denial-number, denial-position};
 
-// Why a call is denied, with the position at fault where it varies.
+/// Why a call is denied, with the position at fault where it varies.
 #[derive(Clone, Copy, PartialEq, Eq, Debug)]
 pub enum Denial {
     Range(u8),

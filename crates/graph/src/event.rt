@@ -3,7 +3,7 @@ ghost use mathlib.Core.Bool.{true};
 ghost use Prim.Native.Nat.{_<_};
 ghost use Rattle.graph.specs.Labels.{allows, accesses, numbered-mode, labelled, is-read, is-write, agree, one-location, location, value-read, value-written};
 
-// How strongly an access or a fence orders.
+/// How strongly an access or a fence orders.
 #[derive(Clone, Copy, PartialEq, Eq, Debug)]
 pub enum Mode {
     NonAtomic,
@@ -22,13 +22,28 @@ pub enum Kind {
     Fence,
 }
 
-// What an event does. An update reads and writes in one step.
+/// What an event does. An update reads and writes in one step.
 #[derive(Clone, Copy, PartialEq, Eq, Debug)]
 pub enum Label {
-    Read { location: u8, value: u32, mode: Mode },
-    Write { location: u8, value: u32, mode: Mode },
-    Update { location: u8, read: u32, written: u32, mode: Mode },
-    Fence { mode: Mode },
+    Read {
+        location: u8,
+        value: u32,
+        mode: Mode,
+    },
+    Write {
+        location: u8,
+        value: u32,
+        mode: Mode,
+    },
+    Update {
+        location: u8,
+        read: u32,
+        written: u32,
+        mode: Mode,
+    },
+    Fence {
+        mode: Mode,
+    },
 }
 
 #[derive(Clone, Copy, PartialEq, Eq, Debug)]
@@ -37,7 +52,7 @@ pub struct Event {
     pub label: Label,
 }
 
-// What an event is recorded from. What its kind does not carry is ignored.
+/// What an event is recorded from. What its kind does not carry is ignored.
 #[derive(Clone, Copy)]
 pub struct Arguments {
     pub thread: u32,
@@ -48,7 +63,7 @@ pub struct Arguments {
 }
 
 impl Mode {
-    // The mode of a number from 0 to 5.
+    /// The mode of a number from 0 to 5.
     fn numbered(n: u32) -> Mode
         ensures { λ r. ⌜ r ≡ numbered-mode n ⌝ }
     {
@@ -64,7 +79,7 @@ impl Mode {
 }
 
 impl Kind {
-    pub fn accesses(self) -> bool
+    pub(crate) fn accesses(self) -> bool
         ensures all_but_fences { λ r. ⌜ r ≡ accesses self ⌝ }
     {
         match self {
@@ -73,8 +88,8 @@ impl Kind {
         }
     }
 
-    // Whether an event of this kind may have the mode of that number.
-    pub fn allows(self, mode: u32) -> bool
+    /// Whether an event of this kind may have the mode of that number.
+    pub(crate) fn allows(self, mode: u32) -> bool
         ensures as_the_rules_allow { λ r. ⌜ r ≡ allows self mode ⌝ }
     {
         match self {
@@ -85,16 +100,29 @@ impl Kind {
         }
     }
 
-    // What an event of this kind takes from its arguments.
+    /// What an event of this kind takes from its arguments.
     pub(crate) fn label(self, x: Arguments) -> Label
         requires { ⌜ (accesses self ≡ true → x .location < 16) ⌝ }
         ensures { λ r. ⌜ r ≡ labelled self x ⌝ }
     {
         let mode = Mode::numbered(x.mode);
         match self {
-            Kind::Read => Label::Read { location: x.location as u8, value: x.read, mode },
-            Kind::Write => Label::Write { location: x.location as u8, value: x.written, mode },
-            Kind::Update => Label::Update { location: x.location as u8, read: x.read, written: x.written, mode },
+            Kind::Read => Label::Read {
+                location: x.location as u8,
+                value: x.read,
+                mode,
+            },
+            Kind::Write => Label::Write {
+                location: x.location as u8,
+                value: x.written,
+                mode,
+            },
+            Kind::Update => Label::Update {
+                location: x.location as u8,
+                read: x.read,
+                written: x.written,
+                mode,
+            },
             Kind::Fence => Label::Fence { mode },
         }
     }
@@ -113,7 +141,7 @@ impl Label {
         self.value_written().is_some()
     }
 
-    // The location of an access.
+    /// The location of an access.
     pub fn location(self) -> Option<u8>
         ensures of_every_access { λ r. ⌜ r ≡ location self ⌝ }
     {
@@ -125,8 +153,8 @@ impl Label {
         }
     }
 
-    // The value that a read or an update reads.
-    pub fn value_read(self) -> Option<u32>
+    /// The value that a read or an update reads.
+    pub(crate) fn value_read(self) -> Option<u32>
         ensures of_every_read { λ r. ⌜ r ≡ value-read self ⌝ }
     {
         match self {
@@ -136,8 +164,8 @@ impl Label {
         }
     }
 
-    // The value that a write or an update writes.
-    pub fn value_written(self) -> Option<u32>
+    /// The value that a write or an update writes.
+    pub(crate) fn value_written(self) -> Option<u32>
         ensures of_every_write { λ r. ⌜ r ≡ value-written self ⌝ }
     {
         match self {
@@ -147,7 +175,7 @@ impl Label {
         }
     }
 
-    pub fn shares_location(self, other: Label) -> bool
+    pub(crate) fn shares_location(self, other: Label) -> bool
         ensures both_access_one_location { λ r. ⌜ r ≡ one-location self other ⌝ }
     {
         match (self.location(), other.location()) {
@@ -156,8 +184,8 @@ impl Label {
         }
     }
 
-    // Whether the other reads the value that this one writes.
-    pub fn writes_value_of(self, read: Label) -> bool
+    /// Whether the other reads the value that this one writes.
+    pub(crate) fn writes_value_of(self, read: Label) -> bool
         ensures written_is_read { λ r. ⌜ r ≡ agree (value-written self) (value-read read) ⌝ }
     {
         match (self.value_written(), read.value_read()) {

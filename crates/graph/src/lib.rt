@@ -1,4 +1,4 @@
-// Execution graphs: events, the entries that build a graph, and what every graph keeps.
+//! Execution graphs: events, the entries that build a graph, and what every graph keeps.
 
 pub mod closed;
 pub mod denial;

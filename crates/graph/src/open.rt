@@ -12,7 +12,7 @@ use crate::event::Kind;
 use crate::size::Size;
 use crate::tables::Graph;
 
-// A graph that takes entries.
+/// A graph that takes entries.
 #[derive(Drop)]
 pub struct Open {
     graph: Graph,
@@ -23,10 +23,12 @@ impl Open {
         ensures initial_writes_placed_and_no_link { λ r. ⌜ of-open r ≡ opening (size .threads) (size .locations) ⌝ }
         ensures every_entry_keeps_a_graph_sound_and_only_adds { λ _. ⌜ Steps-keep-and-grow ⌝ }
     {
-        Open { graph: Graph::new(size) }
+        Open {
+            graph: Graph::new(size),
+        }
     }
 
-    // Appends an event, and answers its number.
+    /// Appends an event, and answers its number.
     pub fn record(&mut self, kind: Kind, arguments: Arguments) -> Result<u8, Denial>
         ensures denied_exactly_in_its_cases { λ r. ⌜ refusal r ≡ denial (of-open (now (self .entry))) (record-event kind arguments) ⌝ }
         ensures one_step { λ _. ⌜ of-open (now (self .exit)) ≡ step (of-open (now (self .entry))) (record-event kind arguments) ⌝ }
@@ -35,7 +37,7 @@ impl Open {
         self.graph.record(kind, arguments)
     }
 
-    // Gives a read its source.
+    /// Gives a read its source.
     pub fn link(&mut self, read: u32, source: u32) -> Result<(), Denial>
         ensures denied_exactly_in_its_cases { λ r. ⌜ refusal r ≡ denial (of-open (now (self .entry))) (link read source) ⌝ }
         ensures one_step { λ _. ⌜ of-open (now (self .exit)) ≡ step (of-open (now (self .entry))) (link read source) ⌝ }
@@ -43,7 +45,7 @@ impl Open {
         self.graph.link(read, source)
     }
 
-    // Puts a write directly after a placed one, in its location's modification order.
+    /// Puts a write directly after a placed one, in its location's modification order.
     pub fn place(&mut self, write: u32, after: u32) -> Result<(), Denial>
         ensures denied_exactly_in_its_cases { λ r. ⌜ refusal r ≡ denial (of-open (now (self .entry))) (place write after) ⌝ }
         ensures one_step { λ _. ⌜ of-open (now (self .exit)) ≡ step (of-open (now (self .entry))) (place write after) ⌝ }

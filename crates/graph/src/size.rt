@@ -7,7 +7,7 @@ ghost use Rattle.graph.specs.Sizes.{size-denial};
 ghost use Rattle.std.specs.declared.option.Option.the-variants.{Some, None};
 use crate::denial::Denial;
 
-// How many threads and locations a graph has: 1 to 16 of each.
+/// How many threads and locations a graph has: 1 to 16 of each.
 #[derive(Clone, Copy, PartialEq, Eq, Debug)]
 pub struct Size {
     threads: u8,
@@ -28,7 +28,10 @@ impl Size {
         if locations < 1 || locations > 16 {
             return Err(Denial::Range(2));
         }
-        Ok(Size { threads: threads as u8, locations: locations as u8 })
+        Ok(Size {
+            threads: threads as u8,
+            locations: locations as u8,
+        })
     }
 
     pub fn threads(self) -> u8

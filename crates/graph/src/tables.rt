@@ -11,7 +11,7 @@ pub mod opening;
 pub mod place;
 pub mod record;
 
-// The tables of a graph. Of each only the front is in use: the rest is of no meaning.
+/// The tables of a graph. Of each only the front is in use: the rest is of no meaning.
 #[derive(Clone, Copy)]
 pub struct Graph {
     threads: u8,

@@ -8,11 +8,18 @@ use crate::event::Mode;
 use crate::size::Size;
 use crate::tables::Graph;
 
-// The write of 0 that a location begins with.
+/// The write of 0 that a location begins with.
 fn initial_write(location: u8) -> Event
     ensures { λ r. ⌜ r ≡ initial-write location ⌝ }
 {
-    Event { thread: 0, label: Label::Write { location, value: 0, mode: Mode::NonAtomic } }
+    Event {
+        thread: 0,
+        label: Label::Write {
+            location,
+            value: 0,
+            mode: Mode::NonAtomic,
+        },
+    }
 }
 
 impl Graph {

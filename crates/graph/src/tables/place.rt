@@ -12,8 +12,8 @@ ghost use Rattle.graph.specs.View.{view};
 use crate::denial::Denial;
 use crate::tables::Graph;
 
-// Where a write first stands among the placed ones.
-fn place_of(placed: &[u8], write: u32) -> Option<usize>
+/// Where a write first stands among the placed ones.
+pub(crate) fn place_of(placed: &[u8], write: u32) -> Option<usize>
     ensures first_place_or_none { λ r. ⌜ Cases r (holds (now (placed .entry)) write ≡ false) (λ i. First-at (now (placed .entry)) write i) ⌝ }
 {
     for (i, w) in placed.iter().enumerate() {
@@ -24,7 +24,7 @@ fn place_of(placed: &[u8], write: u32) -> Option<usize>
     None
 }
 
-// The placed writes with one more directly behind the one at an index.
+/// The placed writes with one more directly behind the one at an index.
 fn insert_behind(mut placed: [u8; 256], standing: usize, at: usize, write: u8) -> [u8; 256]
     requires within { ⌜ at < standing ⌝ }
     requires room { ⌜ standing < 256 ⌝ }
@@ -40,7 +40,7 @@ fn insert_behind(mut placed: [u8; 256], standing: usize, at: usize, write: u8) -
 }
 
 impl Graph {
-    // Where the write to follow stands, if nothing denies the placement.
+    /// Where the write to follow stands, if nothing denies the placement.
     fn place_to_follow(&self, write: u32, after: u32) -> Result<usize, Denial>
         ensures first_test_that_fails { λ r. ⌜ refusal r ≡ denial (view (now (self .entry))) (place write after) ⌝ }
         ensures its_first_place { λ r. ⌜ made r (λ i. First-at (view (now (self .entry)) .placed) after i) ⌝ }
@@ -62,7 +62,7 @@ impl Graph {
         place_of(self.placed(), after).ok_or(Denial::Loose)
     }
 
-    // Puts a write directly after a placed one.
+    /// Puts a write directly after a placed one.
     pub(crate) fn place(&mut self, write: u32, after: u32) -> Result<(), Denial>
         ensures denied_exactly_in_its_cases { λ r. ⌜ refusal r ≡ denial (view (now (self .entry))) (place write after) ⌝ }
         ensures one_step { λ _. ⌜ view (now (self .exit)) ≡ step (view (now (self .entry))) (place write after) ⌝ }

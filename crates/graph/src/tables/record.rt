@@ -11,35 +11,36 @@ use crate::event::Kind;
 use crate::tables::Graph;
 
 impl Graph {
-    fn record_denial(&self, kind: Kind, x: Arguments) -> Option<Denial>
-        ensures first_test_that_fails { λ r. ⌜ r ≡ denial (view (now (self .entry))) (record-event kind x) ⌝ }
+    fn check_record(&self, kind: Kind, x: Arguments) -> Result<(), Denial>
+        ensures first_test_that_fails { λ r. ⌜ refusal r ≡ denial (view (now (self .entry))) (record-event kind x) ⌝ }
     {
         if x.thread < 1 || x.thread > self.threads as u32 {
-            return Some(Denial::Range(1));
+            return Err(Denial::Range(1));
         }
         if kind.accesses() && x.location >= self.locations as u32 {
-            return Some(Denial::Range(2));
+            return Err(Denial::Range(2));
         }
         if !kind.allows(x.mode) {
-            return Some(Denial::Mode);
+            return Err(Denial::Mode);
         }
         if self.count == 256 {
-            return Some(Denial::Full);
+            return Err(Denial::Full);
         }
-        None
+        Ok(())
     }
 
-    // Appends an event, and answers its number.
+    /// Appends an event, and answers its number.
     pub(crate) fn record(&mut self, kind: Kind, x: Arguments) -> Result<u8, Denial>
         ensures denied_exactly_in_its_cases { λ r. ⌜ refusal r ≡ denial (view (now (self .entry))) (record-event kind x) ⌝ }
         ensures one_step { λ _. ⌜ view (now (self .exit)) ≡ step (view (now (self .entry))) (record-event kind x) ⌝ }
         ensures answers_the_next_number { λ r. ⌜ made r (λ n. n ≡ length (view (now (self .entry)) .events)) ⌝ }
     {
-        if let Some(d) = self.record_denial(kind, x) {
-            return Err(d);
-        }
+        self.check_record(kind, x)?;
         let number = self.count;
-        self.events[number] = Event { thread: x.thread as u8, label: kind.label(x) };
+        self.events[number] = Event {
+            thread: x.thread as u8,
+            label: kind.label(x),
+        };
         self.sources[number] = None;
         self.count = number + 1;
         Ok(number as u8)

@@ -14,13 +14,18 @@ insert-behind-placed-requires c κs =
 pub ghost-self : need.ghost-self
 ghost-self c =
     let fits = c .in-Continue-at .ensures tt .first-test-that-fails in
-    let room = place-room (c .args .self .now) (c .args .write) (c .args .after) fits in
-    ((c .args .self .now .long .0, c .args .self .now .long .1, omega arith), ((c .args .self .now .few .0, omega arith),
-     (entered-sound (c .args .self .now) (place (c .args .write) (c .args .after)) _ fits (place-stored (c .args .self .now) (c .args .write) (c .args .after) fits (c .in-Continue-at .at) (c .insert-behind-placed .result) (c .in-Continue-at .ensures tt .its-first-place) (c .insert-behind-placed .ensures)), tt)))
+    let room = place-room (c .args .self .now) (c .args .write) (c .args .after) fits in (
+      (c .args .self .now .long .0, c .args .self .now .long .1, omega arith),
+      (
+        (c .args .self .now .few .0, omega arith),
+        (entered-sound (c .args .self .now) (place (c .args .write) (c .args .after)) _ fits (place-stored (c .args .self .now) (c .args .write) (c .args .after) fits (c .in-Continue-at .at) (c .insert-behind-placed .result) (c .in-Continue-at .ensures tt .its-first-place) (c .insert-behind-placed .ensures)), tt),
+      ),
+    )
 
 pub returns : need.returns
 returns c =
     let fits = c .in-Continue-at .ensures tt .first-test-that-fails in
-    record
-      { denied-exactly-in-its-cases = fits
-      ; one-step = sym (place-stored (c .args .self .now) (c .args .write) (c .args .after) fits (c .in-Continue-at .at) (c .insert-behind-placed .result) (c .in-Continue-at .ensures tt .its-first-place) (c .insert-behind-placed .ensures)) ∙ not-denied (view (c .args .self .now)) (place (c .args .write) (c .args .after)) fits }
+    record {
+      denied-exactly-in-its-cases = fits;
+      one-step = sym (place-stored (c .args .self .now) (c .args .write) (c .args .after) fits (c .in-Continue-at .at) (c .insert-behind-placed .result) (c .in-Continue-at .ensures tt .its-first-place) (c .insert-behind-placed .ensures)) ∙ not-denied (view (c .args .self .now)) (place (c .args .write) (c .args .after)) fits;
+    }

@@ -1,0 +1,4 @@
+mod Figures
+pub mod Laws
+mod Spaces
+mod Spelling

@@ -4,7 +4,7 @@ ghost use Prim.Native.Nat.{_<_};
 ghost use Rattle.graph.specs.Labels.{allows, accesses, numbered-mode, labelled, is-read, is-write, agree, one-location, location, value-read, value-written};
 
 /// How strongly an access or a fence orders.
-#[derive(Clone, Copy, PartialEq, Eq, Debug)]
+#[derive(Clone, Copy, PartialEq, Eq)]
 pub enum Mode {
     NonAtomic,
     Relaxed,
@@ -14,7 +14,7 @@ pub enum Mode {
     SeqCst,
 }
 
-#[derive(Clone, Copy, PartialEq, Eq, Debug)]
+#[derive(Clone, Copy)]
 pub enum Kind {
     Read,
     Write,
@@ -23,7 +23,7 @@ pub enum Kind {
 }
 
 /// What an event does. An update reads and writes in one step.
-#[derive(Clone, Copy, PartialEq, Eq, Debug)]
+#[derive(Clone, Copy)]
 pub enum Label {
     Read {
         location: u8,
@@ -46,7 +46,7 @@ pub enum Label {
     },
 }
 
-#[derive(Clone, Copy, PartialEq, Eq, Debug)]
+#[derive(Clone, Copy)]
 pub struct Event {
     pub thread: u8,
     pub label: Label,

@@ -8,7 +8,7 @@ ghost use Rattle.std.specs.declared.option.Option.the-variants.{Some, None};
 use crate::denial::Denial;
 
 /// How many threads and locations a graph has: 1 to 16 of each.
-#[derive(Clone, Copy, PartialEq, Eq, Debug)]
+#[derive(Clone, Copy)]
 pub struct Size {
     threads: u8,
     locations: u8,

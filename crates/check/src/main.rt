@@ -34,9 +34,18 @@ fn tell(rt: &LibcRuntime, recording: &Recording) -> Result<(), AnyError> {
 
 /// The line that tells why the recording is denied.
 fn deny(rt: &LibcRuntime, fault: Fault) -> Result<(), AnyError> {
-    let Fault { line, column, denial } = fault;
+    let Fault {
+        line,
+        column,
+        denial,
+    } = fault;
     let mut page = vec![in rt.alloc(); b' '; PAGE]?;
-    let answer = report::denial_line(denial.number() as usize, line, column as usize, page.as_mut_slice());
+    let answer = report::denial_line(
+        denial.number() as usize,
+        line,
+        column as usize,
+        page.as_mut_slice(),
+    );
     let Ok(length) = answer else {
         return Err("the denial line was denied".into());
     };

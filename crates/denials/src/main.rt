@@ -2,7 +2,6 @@
 
 ghost use Prim.Native.Nat.{_<_, _≤_};
 ghost use lib.ListN.{length};
-use recording::Fault;
 use report::Tally;
 use report::TallyDisplay;
 use std::error::AnyError;
@@ -62,8 +61,10 @@ fn tell(rt: &LibcRuntime, recorded: &[u8]) -> Result<(), AnyError> {
             let tally = Tally::of(recording.graph.graph());
             println!(rt, "{tally}")?;
         }
-        Err(Fault { line, column, denial }) => {
-            let number = denial.number();
+        Err(fault) => {
+            let number = fault.denial.number();
+            let line = fault.line;
+            let column = fault.column;
             println!(rt, "denial {number}, line {line}, column {column}")?;
         }
     }

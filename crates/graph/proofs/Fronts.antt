@@ -76,6 +76,7 @@ open-by g a x placed absent e w h n = by (stands g a) absent e
 
 -- what does not stand is not open
 pub not-open-by : (g : Content) (a : ℕ) → None ≡ cond (stands g a) (Some (label-of g a)) None → false ≡ is-open g a
-not-open-by g a e = elim (cases-lt a (length (g .events)))
-  [ inl l ↦ let there : stands g a ≡ true = lt-ltb a (length (g .events)) l in let z : _≡_ {A = ℕ} 0 1 = cc in absurd (omega arith)
-  | inr l ↦ let gone : getD (g .events) a no-event ≡ no-event = List·getD-eq-default (g .events) no-event l in cc ]
+not-open-by g a e = elim (cases-lt a (length (g .events))) [
+  | inl l ↦ let there : stands g a ≡ true = lt-ltb a (length (g .events)) l in let z : _≡_ {A = ℕ} 0 1 = cc in absurd (omega arith)
+  | inr l ↦ let gone : getD (g .events) a no-event ≡ no-event = List·getD-eq-default (g .events) no-event l in cc
+]

@@ -26,7 +26,7 @@ spelled n xs rest l e = subst (λ (ys : List ℕ). getD xs 0 0 ∷ (getD xs 1 0 
     by (a ∷ (b ∷ (c ∷ (d ∷ (e ∷ ys))))) h = absurd (omega arith)
 
 pub line-spelled : (letter a b c : ℕ) (xs ys zs : List ℕ) → a ≤ 9999 → b ≤ 9999 → c ≤ 9999 → xs ≡ justified 4 a → ys ≡ justified 4 b → zs ≡ justified 4 c
-  → letter ∷ (getD xs 0 0 ∷ (getD xs 1 0 ∷ (getD xs 2 0 ∷ (getD xs 3 0 ∷ (getD ys 0 0 ∷ (getD ys 1 0 ∷ (getD ys 2 0 ∷ (getD ys 3 0 ∷ (getD zs 0 0 ∷ (getD zs 1 0 ∷ (getD zs 2 0 ∷ (getD zs 3 0 ∷ (10 ∷ []))))))))))))) ≡ report-line letter a b c
+    → letter ∷ (getD xs 0 0 ∷ (getD xs 1 0 ∷ (getD xs 2 0 ∷ (getD xs 3 0 ∷ (getD ys 0 0 ∷ (getD ys 1 0 ∷ (getD ys 2 0 ∷ (getD ys 3 0 ∷ (getD zs 0 0 ∷ (getD zs 1 0 ∷ (getD zs 2 0 ∷ (getD zs 3 0 ∷ (10 ∷ []))))))))))))) ≡ report-line letter a b c
 line-spelled letter a b c xs ys zs la lb lc ea eb ec =
     let third = spelled c zs (10 ∷ []) lc ec in
     let second = spelled b ys (justified 4 c ++ (10 ∷ [])) lb eb in

@@ -12,7 +12,12 @@ use graph::Denial;
 pub const PAGE: usize = 17_934;
 
 /// Writes a denial's number, line and place at the page's start, and answers how many bytes that is.
-pub fn denial_line(number: usize, line: usize, place: usize, page: &mut [u8]) -> Result<usize, Denial>
+pub fn denial_line(
+    number: usize,
+    line: usize,
+    place: usize,
+    page: &mut [u8],
+) -> Result<usize, Denial>
     ensures denied_exactly_in_its_cases { λ r. ⌜ refusal r ≡ line-denial number line place (length (now (page .entry))) ⌝ }
     ensures the_line_stands_in_front_and_the_rest_stays { λ r. ⌜ now (page .exit) ≡ cond (isSome (refusal r)) (now (page .entry)) (laid (report-line 68 number line place) (now (page .entry))) ⌝ }
     ensures answers_its_length { λ r. ⌜ made r (λ n. n ≡ 14) ⌝ }

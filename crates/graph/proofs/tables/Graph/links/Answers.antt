@@ -13,9 +13,10 @@ use Rattle.graph.proofs.tables.Graph.links.Needs as need
 use Rattle.graph.proofs.tables.Graph.links.Needs.{then-is-some, else-is-some}
 
 pub loop-source-again : need.loop-source-again
-loop-source-again c = elim (c .if-is-some .came)
-  [ then-is-some w ↦ let more = countBy-more-yes isSome (c .sources-source-items .result .now) (c .loop-source .source-index) None (omega arith) (sym (w .if-is-some .ensures tt)) in (omega arith, omega arith)
-  | else-is-some w ↦ let more = countBy-more-no isSome (c .sources-source-items .result .now) (c .loop-source .source-index) None (omega arith) (sym (w .if-is-some .ensures tt)) in (omega arith, omega arith) ]
+loop-source-again c = elim (c .if-is-some .came) [
+  | then-is-some w ↦ let more = countBy-more-yes isSome (c .sources-source-items .result .now) (c .loop-source .source-index) None (omega arith) (sym (w .if-is-some .ensures tt)) in (omega arith, omega arith)
+  | else-is-some w ↦ let more = countBy-more-no isSome (c .sources-source-items .result .now) (c .loop-source .source-index) None (omega arith) (sym (w .if-is-some .ensures tt)) in (omega arith, omega arith)
+]
 
 pub returns : need.returns
 returns c = record { number-of-linked-reads = c .loop-source .inv .0 ∙ ap (countBy isSome) (take-all (c .loop-source .source-index) (c .sources-source-items .result .now) (omega arith) ∙ c .sources-source-items .ensures .all-sources-in-order) }

@@ -1,0 +1,9 @@
+pub mod Rules
+pub mod Lines
+pub mod Layout
+pub mod Faults
+pub mod Headings
+pub mod Meaning
+pub mod Left
+pub mod Answers
+pub mod OneLine

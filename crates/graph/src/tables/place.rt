@@ -62,8 +62,8 @@ impl Graph {
         place_of(self.placed(), after).ok_or(Denial::Loose)
     }
 
-    /// Puts a write directly after a placed one.
-    pub(crate) fn place(&mut self, write: u32, after: u32) -> Result<(), Denial>
+    /// Puts a write directly after a placed one. A graph that is tried out is a copy, so this is no entry.
+    pub fn place(&mut self, write: u32, after: u32) -> Result<(), Denial>
         ensures denied_exactly_in_its_cases { λ r. ⌜ refusal r ≡ denial (view (now (self .entry))) (place write after) ⌝ }
         ensures one_step { λ _. ⌜ view (now (self .exit)) ≡ step (view (now (self .entry))) (place write after) ⌝ }
     {

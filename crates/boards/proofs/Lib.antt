@@ -1,0 +1,10 @@
+pub mod Stepping
+pub mod Keeping
+pub mod Laid
+pub mod Agreeing
+pub mod OfCoh
+pub mod OfC11
+pub mod OfRa
+pub mod OfTso
+pub mod OfSc
+pub mod OfBoard

@@ -1,0 +1,9 @@
+pub mod Relations
+pub mod Coh
+pub mod C11
+pub mod Ra
+pub mod Tso
+pub mod Sc
+pub mod Textbook
+pub mod Agreement
+pub mod Boards

@@ -1,0 +1,11 @@
+pub mod Numbers
+pub mod Completions
+pub mod Places
+pub mod Shown
+pub mod States
+pub mod Denials
+pub mod Answers
+pub mod Judging
+pub mod Dealings
+pub mod Law
+pub mod Fillings

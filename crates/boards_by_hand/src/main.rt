@@ -18,17 +18,33 @@ use relation::Relation;
 use std::io;
 
 const RELAXED: u32 = 1;
+
 const ACQUIRE: u32 = 2;
+
 const RELEASE: u32 = 3;
+
 const ACQUIRE_RELEASE: u32 = 4;
+
 const SEQ_CST: u32 = 5;
 
 fn read(thread: u32, location: u32, value: u32, mode: u32) -> Arguments {
-    Arguments { thread, location, read: value, written: 0, mode }
+    Arguments {
+        thread,
+        location,
+        read: value,
+        written: 0,
+        mode,
+    }
 }
 
 fn write(thread: u32, location: u32, value: u32, mode: u32) -> Arguments {
-    Arguments { thread, location, read: 0, written: value, mode }
+    Arguments {
+        thread,
+        location,
+        read: 0,
+        written: value,
+        mode,
+    }
 }
 
 /// Message passing that reads an old value, with an update, a fence, a read of its own thread's write and an open write.
@@ -41,7 +57,13 @@ fn message_passing(mode: u32) -> Result<Open, Denial> {
     open.record(Kind::Write, write(1, 0, 1, RELAXED))?;
     open.record(Kind::Write, write(1, 1, 1, RELEASE))?;
     open.record(Kind::Read, read(2, 1, 1, mode))?;
-    let update = Arguments { thread: 2, location: 0, read: 0, written: 5, mode: ACQUIRE_RELEASE };
+    let update = Arguments {
+        thread: 2,
+        location: 0,
+        read: 0,
+        written: 5,
+        mode: ACQUIRE_RELEASE,
+    };
     open.record(Kind::Update, update)?;
     open.record(Kind::Fence, read(2, 0, 0, SEQ_CST))?;
     open.record(Kind::Read, read(2, 0, 5, RELAXED))?;
@@ -128,7 +150,15 @@ fn show_all(rt: &impl Print, title: &str, built: Result<Open, Denial>) -> io::Re
 }
 
 fn main(rt: LibcRuntime) -> io::Result<()> {
-    show_all(&rt, "message passing by an acquire read", message_passing(ACQUIRE))?;
-    show_all(&rt, "message passing by a relaxed read", message_passing(RELAXED))?;
+    show_all(
+        &rt,
+        "message passing by an acquire read",
+        message_passing(ACQUIRE),
+    )?;
+    show_all(
+        &rt,
+        "message passing by a relaxed read",
+        message_passing(RELAXED),
+    )?;
     show_all(&rt, "load buffering", load_buffering())
 }

@@ -1,3 +1,5 @@
+//! The graph that takes no more entries.
+
 ghost use mathlib.Core.Path.{_≡_};
 use crate::tables::Graph;
 

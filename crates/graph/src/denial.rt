@@ -1,3 +1,5 @@
+//! Denials: why a call is refused, each with its number and position.
+
 ghost use mathlib.Core.Path.{_≡_};
 ghost use Rattle.graph.specs.Denials.{denial-number, denial-position};
 

@@ -1,3 +1,5 @@
+//! Events: what a thread did, and how strongly that orders.
+
 ghost use mathlib.Core.Path.{_≡_};
 ghost use mathlib.Core.Bool.{true};
 ghost use Prim.Native.Nat.{_<_};

@@ -1,3 +1,5 @@
+//! The graph that takes entries.
+
 ghost use mathlib.Core.Path.{_≡_};
 ghost use lib.ListN.{length};
 ghost use Rattle.std.specs.Vec.{made};

@@ -1,3 +1,5 @@
+//! Sizes: the numbers of threads and locations that a graph may have.
+
 ghost use mathlib.Core.Path.{_≡_};
 ghost use mathlib.Core.Bool.{_&&_, cond};
 ghost use Prim.Native.Nat.{_≤_};

@@ -1,3 +1,5 @@
+//! The tables of a graph, with what every graph keeps in their type.
+
 ghost use mathlib.Core.Path.{_≡_};
 ghost use Prim.Native.Nat.{_≤_};
 ghost use lib.ListN.{length};

@@ -1,3 +1,5 @@
+//! The denial line.
+
 ghost use Rattle.graph.specs.Answers.{refusal};
 ghost use Rattle.report.specs.Pages.{laid, line-denial, report-line};
 ghost use Rattle.std.specs.Options.{isSome};

@@ -1,3 +1,5 @@
+//! A line of the report, byte by byte.
+
 ghost use Prim.Native.Nat.{_≤_};
 ghost use Rattle.numeral.specs.Numerals.{justified};
 ghost use Rattle.report.specs.Pages.{report-line};

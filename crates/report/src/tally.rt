@@ -1,3 +1,5 @@
+//! The plain line that tells what was read.
+
 ghost use Rattle.graph.specs.View.{view};
 ghost use Rattle.report.specs.Tallies.{tallied};
 ghost use Rattle.std.specs.Options.{isSome};

@@ -1,3 +1,5 @@
+//! Linking a read to its source.
+
 ghost use mathlib.Core.Path.{_≡_};
 ghost use Rattle.graph.specs.Entries.{denial, step, link};
 ghost use Rattle.graph.specs.Answers.{refusal};

@@ -1,3 +1,5 @@
+//! A graph as it is opened.
+
 ghost use mathlib.Core.Path.{_≡_};
 ghost use Rattle.graph.specs.Content.{opening};
 ghost use Rattle.graph.specs.Labels.{initial-write};

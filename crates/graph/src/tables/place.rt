@@ -1,3 +1,5 @@
+//! Placing a write in its location's modification order.
+
 ghost use mathlib.Core.Path.{_≡_};
 ghost use mathlib.Core.Bool.{false};
 ghost use Prim.Native.Nat.{_+_, _<_};

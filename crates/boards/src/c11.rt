@@ -8,7 +8,6 @@ ghost use Rattle.relation.specs.Table.{holds, Is};
 ghost use Rattle.boards.specs.C11.{c11, c11-hb, sw, releases, acquires};
 use crate::lookup::event_of;
 use graph::Graph;
-use graph::Label;
 use graph::Mode;
 use model::Model;
 use model::Synchronising;
@@ -78,19 +77,7 @@ fn add_synchronizes_with(graph: &Graph, table: &mut Relation)
 fn synchronizes(graph: &Graph, source: u8, read: u8) -> bool
     ensures { λ r. ⌜ r ≡ (releases (mode-of (label-of (view (now (graph .entry))) source)) && acquires (mode-of (label-of (view (now (graph .entry))) read))) ⌝ }
 {
-    releases(mode_of(event_of(graph, source).label))
-        && acquires(mode_of(event_of(graph, read).label))
-}
-
-fn mode_of(label: Label) -> Mode
-    ensures { λ r. ⌜ r ≡ mode-of label ⌝ }
-{
-    match label {
-        Label::Read { mode, .. } => mode,
-        Label::Write { mode, .. } => mode,
-        Label::Update { mode, .. } => mode,
-        Label::Fence { mode } => mode,
-    }
+    releases(event_of(graph, source).label.mode()) && acquires(event_of(graph, read).label.mode())
 }
 
 fn releases(mode: Mode) -> bool

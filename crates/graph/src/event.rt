@@ -3,7 +3,7 @@
 ghost use mathlib.Core.Path.{_≡_};
 ghost use mathlib.Core.Bool.{true};
 ghost use Prim.Native.Nat.{_<_};
-ghost use Rattle.graph.specs.Labels.{allows, accesses, numbered-mode, labelled, is-read, is-write, agree, one-location, location, value-read, value-written};
+ghost use Rattle.graph.specs.Labels.{allows, accesses, numbered-mode, labelled, mode-of, is-read, is-write, agree, one-location, location, value-read, value-written};
 
 /// How strongly an access or a fence orders.
 #[derive(Clone, Copy, PartialEq, Eq)]
@@ -141,6 +141,17 @@ impl Label {
         ensures writes_and_updates { λ r. ⌜ r ≡ is-write self ⌝ }
     {
         self.value_written().is_some()
+    }
+
+    pub fn mode(self) -> Mode
+        ensures of_every_label { λ r. ⌜ r ≡ mode-of self ⌝ }
+    {
+        match self {
+            Label::Read { mode, .. } => mode,
+            Label::Write { mode, .. } => mode,
+            Label::Update { mode, .. } => mode,
+            Label::Fence { mode } => mode,
+        }
     }
 
     /// The location of an access.

@@ -1,6 +1,7 @@
 //! Orders and layers of one graph, worked out by hand.
 use crate::Threefold;
 use crate::ThreefoldModel;
+use crate::happens_before::ThreefoldSynchronising;
 use graph::Arguments;
 use graph::Kind;
 use graph::Open;
@@ -11,6 +12,7 @@ use model::BarrierModel;
 use model::Model;
 use model::Strong;
 use model::StrongModel;
+use model::Synchronising;
 use relation::Relation;
 use std::test::*;
 
@@ -24,8 +26,8 @@ fn arguments(thread: u32, location: u32, read: u32, written: u32, mode: u32) -> 
     }
 }
 
-/// Thread 1 writes x and, past a fence of mode 5, reads y. Thread 2 updates x; past a fence of mode 4 it writes x, and reads x from the initial write.
-/// Events 0 and 1 are the initial writes of x and y. The last write is not placed.
+/// Events 0 and 1 are the initial writes of x and y. Thread 1 writes x and, past a fence of mode 5, reads y from its initial write: 2, 3, 4.
+/// Thread 2 updates x from that write and, past a fence of mode 4, writes x and reads it from its initial write: 5, 6, 7, 8. Write 7 is not placed.
 fn example() -> Result<Open, Fail> {
     let mut open = Open::new(Size::new(2, 2)?);
     open.record(Kind::Write, arguments(1, 0, 0, 1, 1))?;
@@ -43,16 +45,35 @@ fn example() -> Result<Open, Fail> {
     Ok(open)
 }
 
-/// Whether the table holds the pairs of both lists, and no other.
-fn holds_just(table: &Relation, some: &[(u8, u8)], more: &[(u8, u8)]) -> bool {
-    let mut expected = Relation::empty();
-    for pair in some {
-        expected.insert(pair.0, pair.1);
+fn program_order() -> Relation {
+    let mut pairs = Relation::empty();
+    add(&mut pairs, 0, &[1, 2, 3, 4, 5, 6, 7, 8]);
+    add(&mut pairs, 1, &[2, 3, 4, 5, 6, 7, 8]);
+    add(&mut pairs, 2, &[3, 4]);
+    add(&mut pairs, 3, &[4]);
+    add(&mut pairs, 5, &[6, 7, 8]);
+    add(&mut pairs, 6, &[7, 8]);
+    add(&mut pairs, 7, &[8]);
+    pairs
+}
+
+/// At x: program order from 0, 5 and 7, reads-from and modification order from 2, reads-before from 8. At y: 1 with its read.
+/// The update 5 reads from 2, which 5 alone overwrites, so that it is before no write.
+fn coherence() -> Relation {
+    let mut pairs = Relation::empty();
+    add(&mut pairs, 0, &[2, 5, 7, 8]);
+    add(&mut pairs, 1, &[4]);
+    add(&mut pairs, 2, &[5]);
+    add(&mut pairs, 5, &[7, 8]);
+    add(&mut pairs, 7, &[8]);
+    add(&mut pairs, 8, &[2, 5]);
+    pairs
+}
+
+fn add(pairs: &mut Relation, first: u8, seconds: &[u8]) {
+    for second in seconds {
+        pairs.insert(first, *second);
     }
-    for pair in more {
-        expected.insert(pair.0, pair.1);
-    }
-    same(table, &expected)
 }
 
 fn same(table: &Relation, expected: &Relation) -> bool {
@@ -66,90 +87,54 @@ fn same(table: &Relation, expected: &Relation) -> bool {
     true
 }
 
-/// Program order: the initial writes first, then thread 1, then thread 2.
-const PROGRAM_ORDER: [(u8, u8); 24] = [
-    (0, 1),
-    (0, 2),
-    (0, 3),
-    (0, 4),
-    (0, 5),
-    (0, 6),
-    (0, 7),
-    (0, 8),
-    (1, 2),
-    (1, 3),
-    (1, 4),
-    (1, 5),
-    (1, 6),
-    (1, 7),
-    (1, 8),
-    (2, 3),
-    (2, 4),
-    (3, 4),
-    (5, 6),
-    (5, 7),
-    (5, 8),
-    (6, 7),
-    (6, 8),
-    (7, 8),
-];
-
-/// Program order at x, then at y; reads-from; modification order of what is placed; reads-before, in which the update is not before itself.
-const COHERENCE: [(u8, u8); 16] = [
-    (0, 2),
-    (0, 5),
-    (0, 7),
-    (0, 8),
-    (5, 7),
-    (5, 8),
-    (7, 8),
-    (1, 4),
-    (2, 5),
-    (1, 4),
-    (0, 8),
-    (0, 2),
-    (0, 5),
-    (2, 5),
-    (8, 2),
-    (8, 5),
-];
-
 #[test]
 fn orders_are_laid_whatever_the_table_held() -> Result<(), Fail> {
     let open = example()?;
     let mut table = Relation::empty();
     table.insert(200, 7);
     Threefold {}.lay(open.graph(), 0, &mut table);
-    check(holds_just(&table, &COHERENCE, &[]))?;
+    check(same(&table, &coherence()))?;
+    let mut expected = program_order();
+    expected.insert(2, 5);
     Threefold {}.lay(open.graph(), 1, &mut table);
-    check(holds_just(&table, &PROGRAM_ORDER, &[(2, 5), (1, 4), (0, 8)]))?;
+    check(same(&table, &expected)).note("the other links are in program order")?;
     Threefold {}.lay(open.graph(), 2, &mut table);
-    check(holds_just(&table, &PROGRAM_ORDER, &[(0, 2), (0, 5), (2, 5)]))?;
+    check(same(&table, &expected)).note("the other placements are in program order")?;
     Threefold {}.lay(open.graph(), 3, &mut table);
-    check(holds_just(&table, &[], &[])).note("orders beyond the last are empty")
+    check(same(&table, &Relation::empty())).note("orders beyond the last are empty")?;
+    table.insert(200, 7);
+    Threefold {}.lay_happens_before(open.graph(), &mut table);
+    check(same(&table, &program_order()))
 }
 
 #[test]
-fn layers_add_to_every_order() -> Result<(), Fail> {
+fn a_barrier_adds_what_a_fence_of_mode_5_orders() -> Result<(), Fail> {
     let open = example()?;
     let barrier = Barrier::new(Threefold {});
     let mut table = Relation::empty();
     barrier.lay(open.graph(), 0, &mut table);
-    check(holds_just(&table, &COHERENCE, &[(0, 3), (1, 3), (2, 3), (3, 4)])).note(
-        "the fence of mode 5 alone",
-    )?;
+    let mut expected = coherence();
+    add(&mut expected, 3, &[4]);
+    for before in 0..3u8 {
+        expected.insert(before, 3);
+    }
+    check(same(&table, &expected))?;
     barrier.lay(open.graph(), 3, &mut table);
-    check(holds_just(&table, &[], &[])).note("orders beyond the last stay empty")?;
-    let thread_2 = [(5, 6), (5, 7), (5, 8), (6, 7), (6, 8), (7, 8)];
-    let strong = Strong::new(Threefold {}, 0b10);
-    strong.lay(open.graph(), 0, &mut table);
-    check(holds_just(&table, &COHERENCE, &thread_2)).note("thread 2 alone, and no initial write")?;
+    check(same(&table, &Relation::empty())).note("orders beyond the last stay empty")?;
     let pile = Strong::new(barrier, 0b01);
     check_eq(pile.orders(), 3)?;
     pile.lay(open.graph(), 0, &mut table);
-    check(holds_just(
-        &table,
-        &COHERENCE,
-        &[(0, 3), (1, 3), (2, 3), (3, 4), (2, 4)],
-    )).note("thread 1 over the fence")
+    expected.insert(2, 4);
+    check(same(&table, &expected)).note("thread 1 over the fence")
+}
+
+#[test]
+fn a_strong_thread_keeps_its_order() -> Result<(), Fail> {
+    let open = example()?;
+    let mut table = Relation::empty();
+    Strong::new(Threefold {}, 0b10).lay(open.graph(), 0, &mut table);
+    let mut expected = coherence();
+    add(&mut expected, 5, &[6]);
+    add(&mut expected, 6, &[7, 8]);
+    check(same(&table, &expected)).note("thread 2 alone, and from no initial write")
 }

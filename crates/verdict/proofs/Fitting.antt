@@ -80,7 +80,7 @@ module _ (site : ℕ → Option ℕ) where
   parts-bound ls d [] = omega (arith, none-left ls)
   parts-bound ls d (x ∷ xs) = let ih = parts-bound ls d xs in omega (arith, one-more x xs ls, one-hit (site x) ls d)
 
-orders-bound : (h : Content) → Sound h → length (joined (modification-orders h)) ≤ 256
+pub orders-bound : (h : Content) → Sound h → length (joined (modification-orders h)) ≤ 256
 orders-bound h s =
     let few = few-distinct (length (h .events)) (h .placed) (s .placed-once) (λ a k. placed-among h s a k) in
     let all = parts-bound (λ w. location (label-of h w)) (upto (h .locations)) (upto-distinct (h .locations)) (h .placed) in

@@ -1,0 +1,8 @@
+pub mod Counts
+pub mod Tested
+pub mod Widths
+pub mod Sheets
+pub mod Lists
+pub mod Kept
+pub mod Orders
+pub mod Judgements

@@ -1,0 +1,3 @@
+//! The search, on graphs worked out by hand.
+#[cfg(test)]
+mod tests;

@@ -3,6 +3,6 @@ pub mod Tested
 pub mod Widths
 pub mod Sheets
 pub mod Lists
-pub mod Kept
+pub mod Turns
 pub mod Orders
 pub mod Judgements

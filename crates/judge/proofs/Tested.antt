@@ -1,19 +1,14 @@
 -- What tests of an event tell of a graph.
 use Prim.Native.Nat.{ℕ, _<_, _≤_}
-use mathlib.Core.Path.{_≡_, sym, ap}
-use mathlib.Core.Bool.{Bool, true, false, not, _&&_}
+use mathlib.Core.Path.{_≡_, sym}
+use mathlib.Core.Bool.{Bool, false, not, _&&_}
 use mathlib.Core.List.{List}
-use lib.Dec.{T}
 use lib.ListN.{length, getD}
 use native.Mathlib.Omega.{arith}
-use Rattle.std.specs.Options.{isSome}
-use Rattle.std.specs.declared.option.Option.{Option}
-use Rattle.std.specs.declared.option.Option.the-variants.{None}
 use Rattle.std.proofs.shelf.Tests.{lt-ltb, le-ltb}
 use Rattle.graph.specs.declared.event.Event.{Event}
-use Rattle.graph.specs.Labels.{no-event, is-read}
-use Rattle.graph.specs.Content.{Content, label-of, source-of, initial}
-use Rattle.graph.specs.Sound.{Sound}
+use Rattle.graph.specs.Labels.{no-event}
+use Rattle.graph.specs.Content.{Content, initial}
 use Rattle.graph.proofs.Tests.{left, yes-no, truth}
 use Rattle.model.proofs.Places.{at-any}
 use Rattle.verdict.specs.Numbers.{count}
@@ -21,28 +16,10 @@ use Rattle.verdict.specs.Denials.{writes-to}
 use Rattle.judge.specs.Widths.{recorded-write}
 use Rattle.judge.proofs.Counts.{count-none}
 
--- a read without a source, and what is none
-pub reads-alone : (x y : Bool) → true ≡ x → y ≡ false → T (x && not y)
-reads-alone x y p q = grind arith
-
-pub no-read : (x y : Bool) → false ≡ x → T (x && not y) → ⊥
-no-read x y p h = grind arith
-
-pub linked-read : (x y : Bool) → y ≡ true → T (x && not y) → ⊥
-linked-read x y p h = grind arith
-
 -- what the tables hold at an event
 module _ (g : Content) (events : List Event) (all : events ≡ g .events) (r : ℕ) (within : r < length events) where
   pub event-at : (d : Event) → getD events r d ≡ getD (g .events) r no-event
   event-at d = at-any events (g .events) r d no-event all within
-
-  pub reads-at : (d : Event) → is-read (getD events r d .label) ≡ is-read (label-of g r)
-  reads-at d = ap (λ (e : Event). is-read (e .label)) (event-at d)
-
-  pub linked-at : Sound g → (sources : List (Option ℕ)) → sources ≡ g .sources → (d : Option ℕ) → isSome (getD sources r d) ≡ isSome (source-of g r)
-  linked-at s sources same d =
-      let there : r < length sources = omega (arith, ap length all, ap length same, s .aligned) in
-      ap isSome (at-any sources (g .sources) r d None same there)
 
 -- initial writes are not counted
 pub none-initial : (g : Content) (l n : ℕ) → n ≡ g .locations → 0 ≡ count n (recorded-write g l)

@@ -8,14 +8,15 @@ ghost use Rattle.graph.specs.Labels.{is-write, agree, location as its-location}
 ghost use Rattle.graph.specs.Content.{is-open};
 ghost use Rattle.graph.specs.Answers.{refusal};
 ghost use Rattle.graph.specs.View.{view};
-ghost use Rattle.verdict.specs.Numbers.{count, lowest};
-ghost use Rattle.verdict.specs.Denials.{unlinked, unread, wide-at, too-wide, judge-denial};
+ghost use Rattle.verdict.specs.Numbers.{count};
+ghost use Rattle.verdict.specs.Denials.{unread, wide-at, too-wide, judge-denial};
 ghost use Rattle.judge.specs.Widths.{recorded-writes, crowded};
 ghost use Rattle.judge.specs.Judges.{state-of};
 use graph::Denial;
 use graph::Graph;
 use graph::Label;
 use model::laying::locations::location_of;
+use verdict::lowest_unlinked_read;
 
 /// The numbers that a sheet has room for at least: four lists of 256 events, and 256 writes.
 const ROOM: usize = 1280;
@@ -45,19 +46,6 @@ fn check_links(graph: &Graph, closed: bool) -> Result<(), Denial>
         Some(read) => Err(Denial::Unread(read)),
         None => Ok(()),
     }
-}
-
-fn lowest_unlinked_read(graph: &Graph) -> Option<u8>
-    ensures { λ r. ⌜ r ≡ lowest (length (view (now (graph .entry)) .events)) (unlinked (view (now (graph .entry)))) ⌝ }
-{
-    let events = graph.events();
-    let sources = graph.sources();
-    for read in 0..events.len() {
-        if events[read].label.reads() && sources[read].is_none() {
-            return Some(read as u8);
-        }
-    }
-    None
 }
 
 /// Whether there are over 8 open writes, or an open write goes to a location with over 16 writes besides its initial one.

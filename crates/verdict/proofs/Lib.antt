@@ -11,3 +11,4 @@ pub mod Filling
 pub mod Somewhere
 pub mod Trying
 pub mod Outcomes
+mod Unlinked

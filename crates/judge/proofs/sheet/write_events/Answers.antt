@@ -4,7 +4,7 @@ use Prim.Native.Nat.{ℕ}
 use Rattle.std.proofs.shelf.Lists.{take-all}
 use Rattle.judge.specs.Sheets.{put}
 use Rattle.judge.proofs.Sheets.{put-none}
-use Rattle.judge.proofs.Kept.{put-next}
+use Rattle.judge.proofs.Turns.{put-next}
 use Rattle.judge.proofs.sheet.write_events.Needs as need
 
 pub loop-i-holds : need.loop-i-holds

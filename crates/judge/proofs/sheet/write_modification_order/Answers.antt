@@ -9,7 +9,7 @@ use Rattle.std.proofs.shelf.Lists.{take-all}
 use Rattle.graph.specs.View.{view}
 use Rattle.judge.specs.Sheets.{put, at-location}
 use Rattle.judge.proofs.Sheets.{put-none}
-use Rattle.judge.proofs.Kept.{kept-room, put-kept, put-none-kept}
+use Rattle.judge.proofs.Turns.{kept-room, put-kept, put-none-kept}
 use Rattle.judge.proofs.sheet.write_modification_order.Needs as need
 use Rattle.judge.proofs.sheet.write_modification_order.Needs.{After-from, then-accesses, else-accesses}
 

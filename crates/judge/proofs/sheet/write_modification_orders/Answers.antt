@@ -6,7 +6,7 @@ use Rattle.graph.specs.View.{view}
 use Rattle.verdict.specs.Shown.{modification-order}
 use Rattle.judge.proofs.Sheets.{put-none}
 use Rattle.judge.proofs.Lists.{first-of, first-bound}
-use Rattle.judge.proofs.Kept.{put-part}
+use Rattle.judge.proofs.Turns.{put-part}
 use Rattle.judge.proofs.sheet.write_modification_orders.Needs as need
 
 pub loop-location-holds : need.loop-location-holds

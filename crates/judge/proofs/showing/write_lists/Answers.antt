@@ -5,8 +5,11 @@ use native.Mathlib.Omega.{arith}
 use lib.ListN.{length}
 use Rattle.graph.specs.View.{view}
 use Rattle.relation.specs.Listings.{Listing}
-use Rattle.judge.proofs.Lists.{lists-more}
+use Rattle.judge.proofs.Lists.{lists-none, lists-more}
 use Rattle.judge.proofs.showing.write_lists.Needs as need
+
+pub loop-order-holds : need.loop-order-holds
+loop-order-holds g c = (lists-none (g .M·Model .meaning (c .args .model .now)) (view (c .args .full .now)) (c .args .sheet .now), omega arith)
 
 pub loop-order-again : need.loop-order-again
 loop-order-again g c =

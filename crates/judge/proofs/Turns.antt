@@ -1,4 +1,4 @@
--- Those of a list that pass a test, written to a sheet one by one.
+-- What a loop has written to a sheet, one turn on.
 use Prim.Native.Nat.{ℕ, _+_, _<_, _≤_}
 use mathlib.Core.Path.{_≡_, sym, ap, ap₂, _∙_}
 use mathlib.Core.Bool.{Bool, true, false, cond}
@@ -34,10 +34,10 @@ put-part f at n k here next s was after l fits so-far there wrote on =
     )
 
 module _ (p : ℕ → Bool) (xs : List ℕ) (i : ℕ) (l : i < length xs) where
-  pub kept-yes : p (getD xs i 0) ≡ true → kept-by p (take (i + 1) xs) ≡ kept-by p (take i xs) ++ (getD xs i 0 ∷ [])
+  kept-yes : p (getD xs i 0) ≡ true → kept-by p (take (i + 1) xs) ≡ kept-by p (take i xs) ++ (getD xs i 0 ∷ [])
   kept-yes e = kept-by-more p xs i 0 l ∙ ap (λ (b : Bool). kept-by p (take i xs) ++ cond b (getD xs i 0 ∷ []) []) e
 
-  pub kept-no : p (getD xs i 0) ≡ false → kept-by p (take (i + 1) xs) ≡ kept-by p (take i xs)
+  kept-no : p (getD xs i 0) ≡ false → kept-by p (take (i + 1) xs) ≡ kept-by p (take i xs)
   kept-no e = kept-by-more p xs i 0 l ∙ ap (λ (b : Bool). kept-by p (take i xs) ++ cond b (getD xs i 0 ∷ []) []) e ∙ append-nil (kept-by p (take i xs))
 
   kept-first : (b : Bool) (x : ℕ) (ys : List ℕ) → b ≡ true → 0 < length (cond b (x ∷ ys) ys)

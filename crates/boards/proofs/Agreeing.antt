@@ -21,13 +21,14 @@ use Rattle.relation.specs.Steps.{Plus, last, step}
 use Rattle.relation.specs.Cycles.{Acyclic}
 use Rattle.relation.proofs.Walks.{return-cycle, none-returns}
 use Rattle.boards.specs.Relations.{_∪_, at-one-location, steps, one-order, two-orders}
-use Rattle.boards.specs.Agreement.{Full, Serves, Follows}
+use Rattle.boards.specs.Agreement.{Full, Follows}
 use Rattle.boards.specs.Textbook as book
 use Rattle.boards.specs.Textbook.{once, then}
 use Rattle.graph.proofs.Tests.{both, left, right, either, no, yes-no, is-true, truth, same}
 use Rattle.model.proofs.Either.{or-left, or-right}
 use Rattle.model.proofs.Growing.{rb-source, source-rb}
 use Rattle.boards.proofs.Stepping.{steps-are-one-or-more}
+use Rattle.model.specs.Meaning.{Serves}
 
 -- a test and a proposition that hold of the same pairs
 abbrev pub Same : (ℕ → ℕ → Bool) → (ℕ → ℕ → Type 0) → Type 0

@@ -22,7 +22,7 @@ use Rattle.graph.specs.Content.{Content, label-of, source-of, mo}
 use Rattle.graph.specs.Sound.{Sound}
 use Rattle.graph.proofs.Tests.{both, no}
 use Rattle.graph.proofs.Among.{read-among}
-use Rattle.model.specs.Meaning.{Meaning, Rules}
+use Rattle.model.specs.Meaning.{Meaning, Rules, Serves}
 use Rattle.boards.specs.declared.board.Board.{Board}
 use Rattle.boards.specs.Agreement.{Full, Follows}
 use Rattle.boards.specs.Boards.{meaning-of, Consistent-under}
@@ -30,13 +30,14 @@ use Rattle.boards.proofs.OfBoard.{board-rules, board-follows}
 use Rattle.verdict.specs.declared.verdict.Verdict.{Verdict}
 use Rattle.verdict.specs.declared.verdict.Verdict.the-variants.{Allowed as is-allowed}
 use Rattle.verdict.specs.Numbers.{lowest}
-use Rattle.verdict.specs.Completions.{Completion, Serves, Allowed}
+use Rattle.verdict.specs.Completions.{Completion, Allowed}
 use Rattle.verdict.specs.States.{State, as-closed}
-use Rattle.verdict.specs.Denials.{unlinked, unread, or-else, judge-denial}
+use Rattle.verdict.specs.Denials.{unlinked, unread, judge-denial}
 use Rattle.verdict.specs.Answers.{Answer, allowed, cyclic, no-placement, denied, Found, Right-unless, Right-answer, told}
 use Rattle.verdict.specs.Judging.{Judged}
 use Rattle.verdict.proofs.Runs.{some-serves, none-serves}
 use Rattle.consistency.specs.Consistency.{Some-order-is-consistent, Allowed-exactly-when-consistent}
+use Rattle.graph.specs.Entries.{or-else}
 
 -- where the lowest that passes is none, none passes
 lowest-misses : (n : ℕ) (p : ℕ → Bool) → lowest n p ≡ None → (a : ℕ) → a < n → T (p a) → ⊥

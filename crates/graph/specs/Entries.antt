@@ -25,6 +25,11 @@ pub data Entry : Type 0 where
 abbrev pub unless : Bool → Denial → Option Denial → Option Denial
 unless passes d rest = cond passes rest (Some d)
 
+-- the first denial if there is one, and else the rest
+abbrev pub or-else : Option Denial → Option Denial → Option Denial
+or-else (Some d) rest = Some d
+or-else None rest = rest
+
 -- an event of that number stands
 abbrev pub stands : Content → ℕ → Bool
 stands g a = ltb a (length (g .events))

@@ -12,7 +12,7 @@ use Rattle.graph.specs.declared.denial.Denial.{Denial}
 use Rattle.graph.specs.declared.denial.Denial.the-variants.{Sheet, Wide}
 use Rattle.graph.specs.Content.{Content}
 use Rattle.graph.specs.Sizes.{one-to-sixteen, size-denial}
-use Rattle.graph.specs.Entries.{Entry, step, unless}
+use Rattle.graph.specs.Entries.{Entry, step, unless, or-else}
 use Rattle.graph.specs.Sound.{Sound}
 use Rattle.graph.proofs.Tests.{left, right}
 use Rattle.graph.proofs.Denied.{passed, past}
@@ -20,7 +20,7 @@ use Rattle.graph.proofs.Opening.{opening-sound}
 use Rattle.graph.proofs.Steps.{steps-keep-and-grow}
 use Rattle.model.specs.Meaning.{Meaning, Rules}
 use Rattle.verdict.specs.Shown.{modification-orders}
-use Rattle.verdict.specs.Denials.{unread, too-wide, or-else}
+use Rattle.verdict.specs.Denials.{unread, too-wide}
 use Rattle.verdict.specs.Answers.{Answer, allowed, cyclic, no-placement, denied, Found, Right-unless}
 use Rattle.verdict.proofs.Filling.{filled-first-all, none-allowed}
 use Rattle.known.specs.Making.{Making, after-entries, none-denied, opened-as, made, Case, Known}

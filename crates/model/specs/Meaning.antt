@@ -6,6 +6,7 @@ use lib.ListN.{length}
 use lib.Dec.{T}
 use Rattle.graph.specs.Content.{Content, same-location, po, rf, mo, rb}
 use Rattle.graph.specs.Sound.{Sound, Within}
+use Rattle.relation.specs.Cycles.{Acyclic}
 
 -- a number of orders and, for every graph, each order's set of pairs
 pub record Meaning : Type 0 where
@@ -46,6 +47,10 @@ pub record Rules (m : Meaning) : Type 0 where
   pub beyond : Beyond m
   pub floor : Floor m
   pub growth : Growth m
+
+-- no order of the model has a cycle on g
+abbrev pub Serves : Meaning → Content → Type 0
+Serves m g = (k : ℕ) → k < m .orders → Acyclic (m .pairs g k)
 
 -- a pile: as many orders, each keeping every pair of that order below
 pub record Over (upper lower : Meaning) : Type 0 where

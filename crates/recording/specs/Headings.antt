@@ -6,11 +6,10 @@ use Rattle.std.specs.declared.option.Option.{Option}
 use Rattle.std.specs.declared.option.Option.the-variants.{None}
 use Rattle.graph.specs.declared.denial.Denial.{Denial}
 use Rattle.graph.specs.declared.denial.Denial.the-variants.{Range}
-use Rattle.graph.specs.Entries.{unless}
+use Rattle.graph.specs.Entries.{unless, or-else}
 use Rattle.graph.specs.Sizes.{size-denial}
 use Rattle.recording.specs.declared.header.Header.{Header}
 use Rattle.recording.specs.declared.line.Fields.{Fields}
-use Rattle.recording.specs.Rules.{or-else}
 
 -- the five numbers of the H line
 pub record Heading : Type 0 where

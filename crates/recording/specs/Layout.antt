@@ -15,7 +15,8 @@ use Rattle.numeral.specs.Numerals.{numeral}
 use Rattle.recording.specs.declared.layout.LineKind.{LineKind}
 use Rattle.recording.specs.declared.layout.LineKind.the-variants.{Header, Event, Link, Place, End}
 use Rattle.recording.specs.declared.line.Fields.{Fields}
-use Rattle.recording.specs.Rules.{or-else, at-first}
+use Rattle.recording.specs.Rules.{at-first}
+use Rattle.graph.specs.Entries.{or-else}
 
 -- the letters F H L P R U W Z
 abbrev pub lettered : ℕ → Option LineKind

@@ -8,13 +8,12 @@ use Rattle.std.specs.declared.option.Option.the-variants.{Some, None}
 use Rattle.graph.specs.declared.denial.Denial.{Denial}
 use Rattle.graph.specs.declared.denial.Denial.the-variants.{Line, Frame}
 use Rattle.graph.specs.Content.{Content, opening}
-use Rattle.graph.specs.Entries.{Entry, record-event, link, place, denial, step, unless}
+use Rattle.graph.specs.Entries.{Entry, record-event, link, place, denial, step, unless, or-else}
 use Rattle.recording.specs.declared.layout.LineKind.{LineKind}
 use Rattle.recording.specs.declared.layout.LineKind.the-variants.{Header, Event, Link, Place, End}
 use Rattle.recording.specs.declared.line.Fields.{Fields}
 use Rattle.recording.specs.declared.fault.Fault.{Fault}
 use Rattle.recording.specs.Lines.{lines}
-use Rattle.recording.specs.Rules.{or-else}
 use Rattle.recording.specs.Layout.{kind, rest, field-denial, numbers}
 use Rattle.recording.specs.Faults.{fault}
 use Rattle.recording.specs.Headings.{Heading, heading, heading-denial}

@@ -6,11 +6,6 @@ use Rattle.std.specs.declared.option.Option.the-variants.{Some, None}
 use Rattle.graph.specs.declared.denial.Denial.{Denial}
 use Rattle.graph.specs.Entries.{unless}
 
--- the first denial, or else the second
-abbrev pub or-else : Option Denial → Option Denial → Option Denial
-or-else None e = e
-or-else (Some d) e = Some d
-
 -- the denial at the first of the five positions that fails a test
 abbrev pub at-first : (ℕ → Bool) → (ℕ → Denial) → Option Denial
 at-first passes d =

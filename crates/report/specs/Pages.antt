@@ -2,7 +2,6 @@
 use Prim.Native.Nat.{ℕ}
 use mathlib.Core.List.{List, [], _∷_, _++_}
 use lib.Dec.{leb}
-use lib.ListN.{length, drop}
 use Rattle.std.specs.declared.option.Option.{Option}
 use Rattle.std.specs.declared.option.Option.the-variants.{None}
 use Rattle.numeral.specs.Numerals.{justified}
@@ -13,10 +12,6 @@ use Rattle.graph.specs.Entries.{unless}
 -- a letter, three numbers of four columns each, and a newline
 abbrev pub report-line : ℕ → ℕ → ℕ → ℕ → List ℕ
 report-line letter a b c = letter ∷ (justified 4 a ++ (justified 4 b ++ (justified 4 c ++ (10 ∷ []))))
-
--- the page with a text in front; past the text it stays
-abbrev pub laid : List ℕ → List ℕ → List ℕ
-laid text page = text ++ drop (length text) page
 
 -- why a line of numbers is not written: the first of more than four columns, or a page too short
 abbrev pub line-denial : ℕ → ℕ → ℕ → ℕ → Option Denial

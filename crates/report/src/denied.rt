@@ -1,9 +1,10 @@
 //! The denial line.
 
 ghost use Rattle.graph.specs.Answers.{refusal};
-ghost use Rattle.report.specs.Pages.{laid, line-denial, report-line};
+ghost use Rattle.report.specs.Pages.{line-denial, report-line};
 ghost use Rattle.std.specs.Options.{isSome};
 ghost use Rattle.std.specs.Vec.{made};
+ghost use Rattle.verdict.specs.Answers.{laid};
 ghost use lib.ListN.{length};
 ghost use mathlib.Core.Bool.{cond};
 ghost use mathlib.Core.Path.{_≡_};

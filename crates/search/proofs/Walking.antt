@@ -21,8 +21,7 @@ use Rattle.graph.specs.Answers.{Next-open}
 use Rattle.graph.specs.View.{view}
 use Rattle.graph.proofs.Denied.{places}
 use Rattle.graph.proofs.Placing.{place-sound}
-use Rattle.model.specs.Meaning.{Meaning, Rules}
-use Rattle.verdict.specs.Completions.{Serves}
+use Rattle.model.specs.Meaning.{Meaning, Rules, Serves}
 use Rattle.verdict.specs.Fillings.{Fillable, Filled-first}
 use Rattle.verdict.proofs.Filling.{cycle-ends, none-allowed, filled-first-all}
 use Rattle.search.specs.Found.{Finds, Finds-from}

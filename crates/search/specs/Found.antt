@@ -7,8 +7,8 @@ use Rattle.graph.specs.declared.tables.Graph.{Graph}
 use Rattle.graph.specs.Content.{Content}
 use Rattle.graph.specs.Entries.{denial, entered, place}
 use Rattle.graph.specs.View.{view}
-use Rattle.model.specs.Meaning.{Meaning}
-use Rattle.verdict.specs.Completions.{Serves, Allowed}
+use Rattle.model.specs.Meaning.{Meaning, Serves}
+use Rattle.verdict.specs.Completions.{Allowed}
 use Rattle.verdict.specs.Places.{Placed-first}
 use Rattle.verdict.specs.Fillings.{Fillable, Filled-first}
 

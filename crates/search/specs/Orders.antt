@@ -4,8 +4,7 @@ use Rattle.std.specs.declared.option.Option.{Option}
 use Rattle.std.specs.declared.option.Option.the-variants.{Some, None}
 use Rattle.graph.specs.Content.{Content}
 use Rattle.relation.specs.Cycles.{Acyclic, Cyclic}
-use Rattle.model.specs.Meaning.{Meaning}
-use Rattle.verdict.specs.Completions.{Serves}
+use Rattle.model.specs.Meaning.{Meaning, Serves}
 
 -- the lowest order that has a cycle, if any has one
 abbrev pub Lowest-cyclic : Meaning → Content → Option ℕ → Type 0

@@ -1,9 +1,9 @@
 //! Open writes placed one after the other, from the lowest number and the first place on.
 ghost use Rattle.std.specs.Orderings.{When};
 ghost use Rattle.graph.specs.View.{view};
-ghost use Rattle.verdict.specs.Completions.{Serves};
 ghost use Rattle.verdict.specs.Fillings.{Fillable};
 ghost use Rattle.search.specs.Found.{Finds, Finds-from, Puts};
+ghost use Rattle.model.specs.Meaning.{Serves};
 use crate::cycles::lowest_cyclic;
 use graph::Graph;
 use model::Model;

@@ -18,8 +18,8 @@ use Rattle.graph.proofs.Tests.{both, left, right, either, no}
 use Rattle.graph.proofs.Lists.{precedes-first, precedes-second, kept-holds, kept-passes, kept-distinct}
 use Rattle.relation.specs.Cycles.{Cycle}
 use Rattle.relation.proofs.Walks.{larger-keeps-cycles}
-use Rattle.model.specs.Meaning.{Meaning, Rules}
-use Rattle.verdict.specs.Completions.{Completion, Serves, Allowed}
+use Rattle.model.specs.Meaning.{Meaning, Rules, Serves}
+use Rattle.verdict.specs.Completions.{Completion, Allowed}
 use Rattle.verdict.specs.Places.{Placed-first}
 use Rattle.verdict.specs.Fillings.{due, Filling, Fillable, Filled-first}
 use Rattle.verdict.proofs.Lists.{or-left, or-right, test, holds-kept, kept-precedes, precedes-kept}

@@ -14,7 +14,7 @@ use Rattle.graph.specs.declared.denial.Denial.the-variants.{Sheet, Wide}
 use Rattle.graph.specs.Labels.{agree, location}
 use Rattle.graph.specs.Lists.{holds, distinct, upto}
 use Rattle.graph.specs.Content.{Content, label-of}
-use Rattle.graph.specs.Entries.{unless}
+use Rattle.graph.specs.Entries.{unless, or-else}
 use Rattle.graph.specs.Sound.{Sound}
 use Rattle.graph.proofs.Tests.{left, right, yes-no}
 use Rattle.graph.proofs.Lists.{few-distinct, upto-distinct}
@@ -24,7 +24,7 @@ use Rattle.relation.proofs.Repeats.{short-cycle}
 use Rattle.relation.proofs.Listed.{listing-length}
 use Rattle.model.specs.Meaning.{Meaning, Rules}
 use Rattle.verdict.specs.Shown.{modification-orders, Shown}
-use Rattle.verdict.specs.Denials.{unread, too-wide, or-else, judge-denial}
+use Rattle.verdict.specs.Denials.{unread, too-wide, judge-denial}
 use Rattle.verdict.specs.Answers.{Answer, allowed, cyclic, no-placement, denied, Found, Right-unless, joined, written}
 use Rattle.verdict.specs.Judging.{Answers-fit}
 

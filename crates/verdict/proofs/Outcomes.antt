@@ -11,9 +11,9 @@ use Rattle.graph.specs.declared.denial.Denial.{Denial}
 use Rattle.graph.specs.Content.{Content}
 use Rattle.relation.specs.Cycles.{Acyclic, First-cycle}
 use Rattle.relation.specs.Listings.{Listing}
-use Rattle.model.specs.Meaning.{Meaning}
+use Rattle.model.specs.Meaning.{Meaning, Serves}
 use Rattle.verdict.specs.declared.verdict.Verdict.the-variants.{Allowed as is-allowed, Cycle as has-cycle, NoPlacement as has-no-placement}
-use Rattle.verdict.specs.Completions.{Serves, Allowed}
+use Rattle.verdict.specs.Completions.{Allowed}
 use Rattle.verdict.specs.Places.{Placed-first}
 use Rattle.verdict.specs.Shown.{modification-orders}
 use Rattle.verdict.specs.States.{State}

@@ -20,9 +20,8 @@ use Rattle.graph.proofs.Lists.{precedes-first, precedes-second, holds-insert, i
 use Rattle.graph.proofs.Among.{write-among}
 use Rattle.graph.proofs.Denied.{places}
 use Rattle.graph.proofs.Placing.{place-within}
-use Rattle.model.specs.Meaning.{Meaning}
+use Rattle.model.specs.Meaning.{Meaning, Serves}
 use Rattle.verdict.specs.Numbers.{count}
-use Rattle.verdict.specs.Completions.{Serves}
 use Rattle.verdict.specs.Places.{there-before, place-of}
 use Rattle.verdict.specs.Fillings.{due, Filling, Fillable, Filled-first}
 use Rattle.verdict.proofs.Lists.{or-left, or-right, test, never-before-itself, precedes-one-way, precedes-some-way, precedes-trans}

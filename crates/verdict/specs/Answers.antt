@@ -10,10 +10,10 @@ use Rattle.std.specs.declared.result.Result.the-variants.{Ok, Err}
 use Rattle.graph.specs.declared.denial.Denial.{Denial}
 use Rattle.graph.specs.Content.{Content}
 use Rattle.relation.specs.Cycles.{Acyclic, First-cycle}
-use Rattle.model.specs.Meaning.{Meaning}
+use Rattle.model.specs.Meaning.{Meaning, Serves}
 use Rattle.verdict.specs.declared.verdict.Verdict.{Verdict}
 use Rattle.verdict.specs.declared.verdict.Verdict.the-variants.{Allowed as is-allowed, Cycle as has-cycle, NoPlacement as has-no-placement}
-use Rattle.verdict.specs.Completions.{Serves, Allowed}
+use Rattle.verdict.specs.Completions.{Allowed}
 use Rattle.verdict.specs.Shown.{Shown}
 use Rattle.verdict.specs.States.{State}
 use Rattle.verdict.specs.Denials.{judge-denial}

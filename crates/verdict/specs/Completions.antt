@@ -1,13 +1,12 @@
 -- Full modification orders that extend the placements, and those that serve a model.
-use Prim.Native.Nat.{ℕ, _<_}
+use Prim.Native.Nat.{ℕ}
 use mathlib.Core.Path.{_≡_}
 use lib.Dec.{T}
 use Rattle.graph.specs.Labels.{is-write}
 use Rattle.graph.specs.Lists.{holds}
 use Rattle.graph.specs.Content.{Content, label-of, mo}
 use Rattle.graph.specs.Sound.{Sound}
-use Rattle.relation.specs.Cycles.{Acyclic}
-use Rattle.model.specs.Meaning.{Meaning}
+use Rattle.model.specs.Meaning.{Meaning, Serves}
 
 -- h is g with every write placed, in an order that keeps that of g's placements
 pub record Completion (g h : Content) : Type 0 where
@@ -18,10 +17,6 @@ pub record Completion (g h : Content) : Type 0 where
   pub sound : Sound h
   pub full : (w : ℕ) → T (is-write (label-of h w)) → T (holds (h .placed) w)
   pub extends : (a b : ℕ) → T (mo g a b) → T (mo h a b)
-
--- every order of the model is free of cycles on h
-abbrev pub Serves : Meaning → Content → Type 0
-Serves m h = (k : ℕ) → k < m .orders → Acyclic (m .pairs h k)
 
 -- some full modification order that extends g's placements serves
 abbrev pub Allowed : Meaning → Content → Type 0

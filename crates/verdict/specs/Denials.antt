@@ -10,7 +10,7 @@ use Rattle.graph.specs.declared.denial.Denial.{Denial}
 use Rattle.graph.specs.declared.denial.Denial.the-variants.{Unread, Sheet, Wide}
 use Rattle.graph.specs.Labels.{is-read, is-write, agree, location}
 use Rattle.graph.specs.Content.{Content, label-of, source-of, is-open, initial}
-use Rattle.graph.specs.Entries.{unless}
+use Rattle.graph.specs.Entries.{unless, or-else}
 use Rattle.verdict.specs.Numbers.{count, lowest}
 use Rattle.verdict.specs.States.{State}
 
@@ -35,11 +35,6 @@ wide-at g l =
 -- over 8 open writes, or a location that is wide
 abbrev pub too-wide : Content → Bool
 too-wide g = ltb 8 (count (length (g .events)) (is-open g)) || ltb 0 (count (g .locations) (wide-at g))
-
--- the first denial, if any, and else the rest
-abbrev pub or-else : Option Denial → Option Denial → Option Denial
-or-else (Some d) rest = Some d
-or-else None rest = rest
 
 -- why a judge on a sheet of n numbers is denied: on a closed graph by an unlinked read, by its sheet, by its width
 abbrev pub judge-denial : State → ℕ → Option Denial

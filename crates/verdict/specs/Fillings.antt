@@ -7,8 +7,7 @@ use Rattle.graph.specs.Labels.{is-write}
 use Rattle.graph.specs.Lists.{holds}
 use Rattle.graph.specs.Content.{Content, label-of, is-open, mo}
 use Rattle.graph.specs.Sound.{Sound}
-use Rattle.model.specs.Meaning.{Meaning}
-use Rattle.verdict.specs.Completions.{Serves}
+use Rattle.model.specs.Meaning.{Meaning, Serves}
 use Rattle.verdict.specs.Places.{place-of}
 
 -- placed in g, or from n on

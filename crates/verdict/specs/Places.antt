@@ -6,9 +6,9 @@ use lib.Dec.{ltb, T}
 use lib.ListN.{length}
 use Rattle.graph.specs.Lists.{holds}
 use Rattle.graph.specs.Content.{Content, is-open, mo}
-use Rattle.model.specs.Meaning.{Meaning}
+use Rattle.model.specs.Meaning.{Meaning, Serves}
 use Rattle.verdict.specs.Numbers.{count}
-use Rattle.verdict.specs.Completions.{Completion, Serves}
+use Rattle.verdict.specs.Completions.{Completion}
 
 -- c is there when w is placed: it was placed in g, or its turn comes before that of w
 abbrev pub there-before : Content → ℕ → ℕ → Bool

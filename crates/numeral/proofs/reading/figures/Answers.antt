@@ -23,13 +23,13 @@ returns-then-not-is_ascii_digit c =
 
 pub returns-in_err-checked_mul : goal.returns-in_err-checked_mul
 returns-in_err-checked_mul c =
-    c.from-residual.ensures
+    c.from_residual.ensures
     ∙ sym (figure_overflow c.args.digits.now c.loop-digit.digit-index c.loop-digit.number
     c.loop-digit-test.true c.loop-digit.invariant.0 (omega (arith, c.in_err-checked_mul.ensures)))
 
 pub returns-in_err-number : goal.returns-in_err-number
 returns-in_err-number c =
-    c.from-residual-in_err-number.ensures
+    c.from_residual-in_err-number.ensures
     ∙ sym (figure_overflow c.args.digits.now c.loop-digit.digit-index c.loop-digit.number
     c.loop-digit-test.true c.loop-digit.invariant.0
     (omega (arith, c.in_err-number.ensures, c.in_ok-checked_mul.ensures)))

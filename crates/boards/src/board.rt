@@ -45,7 +45,7 @@ impl Board {
     }
 }
 
-pub impl Model for Board as BoardModel {
+impl Model for Board {
     ghost meaning = { meaning_of };
 
     ghost few = { λ m. (board_rules m).few };

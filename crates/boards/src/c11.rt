@@ -22,7 +22,7 @@ use relation::Relation;
 #[derive(Clone, Copy)]
 pub struct C11;
 
-pub impl Model for C11 as C11Model {
+impl Model for C11 {
     ghost meaning = { λ _. c11 };
 
     ghost few = { Prim.search rules };

@@ -15,7 +15,7 @@ use relation::Relation;
 #[derive(Clone, Copy)]
 pub struct Coh;
 
-pub impl Model for Coh as CohModel {
+impl Model for Coh {
     ghost meaning = { λ _. coh };
 
     ghost few = { Prim.search rules };

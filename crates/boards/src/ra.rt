@@ -19,7 +19,7 @@ use relation::Relation;
 #[derive(Clone, Copy)]
 pub struct Ra;
 
-pub impl Model for Ra as RaModel {
+impl Model for Ra {
     ghost meaning = { λ _. ra };
 
     ghost few = { Prim.search rules };

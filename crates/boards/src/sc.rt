@@ -12,7 +12,7 @@ use relation::Relation;
 #[derive(Clone, Copy)]
 pub struct Sc;
 
-pub impl Model for Sc as ScModel {
+impl Model for Sc {
     ghost meaning = { λ _. sc };
 
     ghost few = { Prim.search rules };

@@ -21,7 +21,7 @@ use relation::Relation;
 #[derive(Clone, Copy)]
 pub struct Tso;
 
-pub impl Model for Tso as TsoModel {
+impl Model for Tso {
     ghost meaning = { λ _. tso };
 
     ghost few = { Prim.search rules };

@@ -1,5 +1,5 @@
 //! Prints the orders of two small graphs under each model. What it must print was worked out by hand.
-use boards::{Board, BoardModel, C11, Ra};
+use boards::{Board, C11, Ra};
 use event::{Arguments, Denial, Kind, Size};
 use graph::{Graph, Open};
 use model::{Model, Synchronising};

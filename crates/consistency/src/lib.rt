@@ -7,7 +7,7 @@ ghost use Rattle.std.specs.Prelude.{IfOk};
 ghost use Rattle.verdict.specs.Law.{Lawful};
 ghost use Rattle.verdict.specs.States.{as_closed};
 
-use boards::{Board, BoardModel};
+use boards::Board;
 use event::Denial;
 use graph::Closed;
 use judge::Judge;

@@ -1,7 +1,7 @@
 //! Times judges on graphs of 256 events with eight open writes.
 //! Standard output has the verdicts, standard error how long they take. The argument is the number of rounds.
 
-use boards::{Board, BoardModel};
+use boards::Board;
 use event::{Arguments, Denial, Kind, Size};
 use graph::Open;
 use judge::Judge;

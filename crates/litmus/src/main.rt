@@ -2,10 +2,10 @@
 //! The arguments are the names of the recordings; the strong set, the barrier and the model of a recording do not count.
 
 use anyhow::anyhow;
-use boards::{Board, BoardModel};
+use boards::Board;
 use graph::Closed;
 use judge::Judge;
-use model::{Barrier, BarrierModel, Model, Strong, StrongModel};
+use model::{Barrier, Model, Strong};
 use std::{env, fs, io};
 use verdict::Verdict;
 

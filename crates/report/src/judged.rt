@@ -8,10 +8,10 @@ ghost use Rattle.std.specs.Prelude.{◌≡◌, Some};
 ghost use Rattle.verdict.specs.Law.{Lawful};
 ghost use Rattle.verdict.specs.States.{as_closed};
 
-use boards::{Board, BoardModel};
+use boards::Board;
 use event::Denial;
 use judge::Judge;
-use model::{Barrier, BarrierModel, Strong, StrongModel};
+use model::{Barrier, Strong};
 use recording::Recording;
 use verdict::Verdict;
 

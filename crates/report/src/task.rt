@@ -13,9 +13,9 @@ ghost use Rattle.report.specs.Printing.{LawfullyPrinted};
 
 use crate::denied::denial_line;
 use crate::printing::print;
-use boards::{Board, BoardModel};
+use boards::Board;
 use event::Denial;
-use model::{Barrier, BarrierModel, Strong, StrongModel};
+use model::{Barrier, Strong};
 use recording::Recording;
 
 /// Reads a recording, prints it by the pile of its header, and answers how many bytes then stand on the page.

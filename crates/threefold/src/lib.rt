@@ -23,7 +23,7 @@ use relation::Relation;
 #[derive(Clone, Copy)]
 pub struct Threefold {}
 
-pub impl Model for Threefold as ThreefoldModel {
+impl Model for Threefold {
     ghost meaning = { λ _. threefold };
 
     ghost few = { Prim.search rules };

@@ -2,7 +2,7 @@
 use crate::Threefold;
 use event::{Arguments, Kind, Size};
 use graph::Open;
-use model::{Barrier, BarrierModel, Model, Strong, StrongModel, Synchronising};
+use model::{Barrier, Model, Strong, Synchronising};
 use relation::Relation;
 use std::test::Fail;
 

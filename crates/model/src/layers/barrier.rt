@@ -32,7 +32,7 @@ impl<M: Model> Barrier<M> {
     }
 }
 
-pub impl<M: Model> Model for Barrier<M> as BarrierModel {
+impl<M: Model> Model for Barrier<M> {
     ghost meaning = { λ m. barrier (M.Model.meaning m.below) };
 
     ghost few = { Prim.search rules };

@@ -30,7 +30,7 @@ impl<M: Model> Strong<M> {
     }
 }
 
-pub impl<M: Model> Model for Strong<M> as StrongModel {
+impl<M: Model> Model for Strong<M> {
     ghost meaning = { λ m. strong m.threads (M.Model.meaning m.below) };
 
     ghost few = { Prim.search rules };

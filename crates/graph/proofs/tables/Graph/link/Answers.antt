@@ -12,13 +12,12 @@ offset_bounds-self-read c = let k = link_read c.args.self.now c.args.read c.args
 
 pub invariant_of-self : goal.invariant_of-self
 invariant_of-self c =
-    let fits = c.in_ok-check_link.ensures.first_test_that_fails in (
-      (c.args.self.now.long.0, length-set _ _ _ ∙ c.args.self.now.long.1, c.args.self.now.long.2),
-      (
-        c.args.self.now.few,
-        (entered_sound c.args.self.now (link c.args.read c.args.source) _ fits (link_stored c.args.self.now c.args.read c.args.source fits), tt),
-      ),
-    )
+    let fits = c.in_ok-check_link.ensures.first_test_that_fails in
+    record {
+      long = (c.args.self.now.long.0, length-set _ _ _ ∙ c.args.self.now.long.1, c.args.self.now.long.2);
+      few = c.args.self.now.few;
+      sound = entered_sound c.args.self.now (link c.args.read c.args.source) _ fits (link_stored c.args.self.now c.args.read c.args.source fits);
+    }
 
 pub returns : goal.returns
 returns c =

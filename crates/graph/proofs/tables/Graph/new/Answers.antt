@@ -17,18 +17,14 @@ loop-l-preserved c = (
 )
 
 pub invariant_of-result : goal.invariant_of-result
-invariant_of-result c = (
-  (c.loop-l.invariant.0, refl, c.loop-l.invariant.1),
-  (
-    (omega arith, omega arith),
-    (
+invariant_of-result c = record {
+  long = (c.loop-l.invariant.0, refl, c.loop-l.invariant.1);
+  few = (omega arith, omega arith);
+  sound =
       ∣ subst Sound
           (opening_stored c.threads.result c.locations-locations.result c.loop-l.events c.loop-l.placed (omega arith) c.loop-l.invariant.0 c.loop-l.invariant.1 (λ k h. c.loop-l.invariant.2 k (omega arith)) (λ k h. c.loop-l.invariant.3 k (omega arith)))
-          (opening_sound c.threads.result c.locations-locations.result (omega arith) (omega arith) (omega arith) (omega arith)) ∣₁,
-      tt,
-    ),
-  ),
-)
+          (opening_sound c.threads.result c.locations-locations.result (omega arith) (omega arith) (omega arith) (omega arith)) ∣₁;
+}
 
 pub returns : goal.returns
 returns c = record {

@@ -12,13 +12,12 @@ insert_behind-placed-requires c =
 pub invariant_of-self : goal.invariant_of-self
 invariant_of-self c =
     let fits = c.in_ok-at.ensures.first_test_that_fails in
-    let room = place_room c.args.self.now c.args.write c.args.after fits in (
-      (c.args.self.now.long.0, c.args.self.now.long.1, omega arith),
-      (
-        (c.args.self.now.few.0, omega arith),
-        (entered_sound c.args.self.now (place c.args.write c.args.after) _ fits (place_stored c.args.self.now c.args.write c.args.after fits c.in_ok-at.at c.insert_behind-placed.result c.in_ok-at.ensures.its_first_place c.insert_behind-placed.ensures), tt),
-      ),
-    )
+    let room = place_room c.args.self.now c.args.write c.args.after fits in
+    record {
+      long = (c.args.self.now.long.0, c.args.self.now.long.1, omega arith);
+      few = (c.args.self.now.few.0, omega arith);
+      sound = entered_sound c.args.self.now (place c.args.write c.args.after) _ fits (place_stored c.args.self.now c.args.write c.args.after fits c.in_ok-at.at c.insert_behind-placed.result c.in_ok-at.ensures.its_first_place c.insert_behind-placed.ensures);
+    }
 
 pub returns : goal.returns
 returns c =

@@ -19,13 +19,12 @@ bounds-self-number-2 c = record_room c.args.self.now c.args.kind c.args.x c.in_o
 pub invariant_of-self : goal.invariant_of-self
 invariant_of-self c =
     let fits = c.in_ok-check_record.ensures.first_test_that_fails in
-    let room = record_room c.args.self.now c.args.kind c.args.x fits in (
-      (length-set _ _ _ ∙ c.args.self.now.long.0, length-set _ _ _ ∙ c.args.self.now.long.1, c.args.self.now.long.2),
-      (
-        (omega arith, c.args.self.now.few.1),
-        (entered_sound c.args.self.now (record_event c.args.kind c.args.x) _ fits (record_stored c.args.self.now c.args.kind c.args.x fits c.label.result c.label.ensures), tt),
-      ),
-    )
+    let room = record_room c.args.self.now c.args.kind c.args.x fits in
+    record {
+      long = (length-set _ _ _ ∙ c.args.self.now.long.0, length-set _ _ _ ∙ c.args.self.now.long.1, c.args.self.now.long.2);
+      few = (omega arith, c.args.self.now.few.1);
+      sound = entered_sound c.args.self.now (record_event c.args.kind c.args.x) _ fits (record_stored c.args.self.now c.args.kind c.args.x fits c.label.result c.label.ensures);
+    }
 
 pub returns : goal.returns
 returns c =

@@ -8,7 +8,7 @@ pub bounds-self-self : goal.bounds-self-self
 bounds-self-self c = omega (arith, events_length c.args.self.now)
 
 pub invariant_of-self : goal.invariant_of-self
-invariant_of-self c = (simp length-set c.args.self.now.sized, (omega (arith, events_length c.args.self.now, c.requires), tt))
+invariant_of-self c = record { sized = simp length-set c.args.self.now.sized; bounded = omega (arith, events_length c.args.self.now, c.requires) }
 
 pub returns : goal.returns
 unfolding events

@@ -16,7 +16,7 @@ returns-in_err-check_judge g c =
     let laws = g.met.M.Model in
     let s = state_of c.args.closed (view c.args.graph.now) in
     let before = c.args.sheet.now in
-    let p = err_from_is_err_and c.from-residual.result c.from-residual.ensures.1 in
+    let p = err_from_is_err_and c.from_residual.result c.from_residual.ensures.1 in
     lawful m (laws.few x) (laws.inside x) (laws.beyond x) (laws.floor x) (laws.growth x) s before _ before
     (subst (λ (r : Result Verdict Denial). Judged m s before r before) (sym (p.1 ∙ ap (λ (d : Denial). Err d) p.2))
     (judged_denied m s before _ (sym c.in_err-check_judge.ensures.first_test_that_fails)))

@@ -12,7 +12,7 @@ use Rattle.recording.proofs.whole.read.Goals as goal
 pub returns-in_err-header : goal.returns-in_err-header
 returns-in_err-header c =
     let bytes = c.args.bytes.now
-    in let p = err_from_is_err_and c.from-residual.result c.from-residual.ensures.1
+    in let p = err_from_is_err_and c.from_residual.result c.from_residual.ensures.1
     in let all : meaning bytes ≡ ahead c.new-reader.result unopened = all_ahead c.new-reader.result bytes c.new-reader.ensures.everything_is_left c.new-reader.ensures.no_line_is_counted
     in let at-fault : (meaning bytes).fault ≡ Some c.in_err-header.field-0.0 = ap (λ (o : Outcome). o.fault) (all ∙ c.in_err-header.ensures.opens_what_is_left_or_tells_its_fault)
     in record {
@@ -25,7 +25,7 @@ pub returns-in_err-fill : goal.returns-in_err-fill
 returns-in_err-fill c =
     let bytes = c.args.bytes.now
     in let header = c.in_ok-header.header
-    in let p = err_from_is_err_and c.from-residual-in_err-fill.result c.from-residual-in_err-fill.ensures.1
+    in let p = err_from_is_err_and c.from_residual-in_err-fill.result c.from_residual-in_err-fill.ensures.1
     in let all : meaning bytes ≡ ahead c.new-reader.result unopened = all_ahead c.new-reader.result bytes c.new-reader.ensures.everything_is_left c.new-reader.ensures.no_line_is_counted
     in let opened = opened_for header (of_open c.new-graph.result) c.new-graph.ensures.initial_writes_placed_and_no_link
     in let filling : meaning bytes ≡ ahead c.header.new.self (taking (heading_of header) (of_open c.new-graph.result)) = all ∙ c.in_ok-header.ensures.opens_what_is_left_or_tells_its_fault ∙ ap (ahead c.header.new.self) opened

@@ -25,9 +25,9 @@ rules g x =
 pub returns-in_err-verdict : goal.returns-in_err-verdict
 returns-in_err-verdict g c =
     let m = g.M.Model.meaning c.args.model.now in
-    let p = err_from_is_err_and c.from-residual.result c.from-residual.ensures.1 in
+    let p = err_from_is_err_and c.from_residual.result c.from_residual.ensures.1 in
     let denial : Denial = c.in_err-verdict.field-0.0 in
-    let returned : c.from-residual.result ≡ Err denial = p.1 ∙ ap (λ (d : Denial). Err d) p.2 in
+    let returned : c.from_residual.result ≡ Err denial = p.1 ∙ ap (λ (d : Denial). Err d) p.2 in
     record {
       the_right_report_and_the_law_holds_of_every_run_that_makes_this_graph =
           subst (λ (r : Result ℕ Denial). LawfullyPrinted m (of_closed c.args.graph) c.args.page.now r c.args.page.now) (sym returned)

@@ -6,7 +6,7 @@ use Rattle.recording.proofs.header.Header.of.Goals as goal
 
 pub returns-in_err-size : goal.returns-in_err-size
 returns-in_err-size c =
-    let p = err_from_is_err_and c.from-residual.result c.from-residual.ensures.1
+    let p = err_from_is_err_and c.from_residual.result c.from_residual.ensures.1
     in rw (p.1, p.2) (bad_size (heading c.args.fields) _ c.in_err-size.ensures.that_size_or_the_first_out_of_range)
 
 pub returns-then-fields-threads : goal.returns-then-fields-threads
@@ -21,15 +21,15 @@ returns-then-fields-gt1 c =
     in let bound = set_bound c.threads.result c.args.fields.first (omega arith) (c.threads.ensures.its_threads ∙ size.1)
     in bad_barrier (heading c.args.fields) size.0 (rw bound at c.if-fields-threads.false) c.if-fields-gt1.true
 
-pub returns-then-fields-gt-LAST-MODEL : goal.returns-then-fields-gt-LAST-MODEL
-returns-then-fields-gt-LAST-MODEL c =
+pub returns-then-fields-gt-LAST_MODEL : goal.returns-then-fields-gt-LAST_MODEL
+returns-then-fields-gt-LAST_MODEL c =
     let size = c.in_ok-size.ensures.that_size_or_the_first_out_of_range
     in let bound = set_bound c.threads.result c.args.fields.first (omega arith) (c.threads.ensures.its_threads ∙ size.1)
-    in bad_model (heading c.args.fields) size.0 (rw bound at c.if-fields-threads.false) c.if-fields-gt1.false c.if-fields-gt-LAST-MODEL.true
+    in bad_model (heading c.args.fields) size.0 (rw bound at c.if-fields-threads.false) c.if-fields-gt1.false c.if-fields-gt-LAST_MODEL.true
 
 pub returns : goal.returns
 returns c =
     let size = c.in_ok-size.ensures.that_size_or_the_first_out_of_range
     in let bound = set_bound c.threads.result c.args.fields.first (omega arith) (c.threads.ensures.its_threads ∙ size.1)
     in let barrier = flag c.args.fields.fourth c.if-fields-gt1.false
-    in (good_heading (heading c.args.fields) size.0 (rw bound at c.if-fields-threads.false) c.if-fields-gt1.false c.if-fields-gt-LAST-MODEL.false, rw (size.1, size.2, barrier))
+    in (good_heading (heading c.args.fields) size.0 (rw bound at c.if-fields-threads.false) c.if-fields-gt1.false c.if-fields-gt-LAST_MODEL.false, rw (size.1, size.2, barrier))

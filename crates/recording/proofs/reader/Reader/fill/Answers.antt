@@ -33,7 +33,7 @@ returns-in_err-ended c =
     in let next = c.in-Some.ensures.the_first_line_of_what_is_left
     in let counted = c.in-Some.ensures.a_line_is_counted_or_nothing_changes
     in let answer = sym c.on_line.ensures ∙ c.in_err-ended.was
-    in let p = err_from_is_err_and c.from-residual.result c.from-residual.ensures.1
+    in let p = err_from_is_err_and c.from_residual.result c.from_residual.ensures.1
     in record {
       the_lines_before_the_first_fault_stand = λ h.
           let q = not_entered a b l next counted c.loop-line.ended (of_open c.loop-line.graph) (of_open c.enter.new.graph) c.enter.result _ c.enter.ensures answer h

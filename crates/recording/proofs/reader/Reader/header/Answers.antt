@@ -20,7 +20,7 @@ pub returns-in_err-on_line : goal.returns-in_err-on_line
 returns-in_err-on_line c =
     let next = c.in-Some.ensures.the_first_line_of_what_is_left
     in let counted = c.in-Some.ensures.a_line_is_counted_or_nothing_changes
-    in let p = err_from_is_err_and c.from-residual.result c.from-residual.ensures.1
+    in let p = err_from_is_err_and c.from_residual.result c.from_residual.ensures.1
     in record {
       opens_what_is_left_or_tells_its_fault = rw (p.1, p.2) (not_headed c.args.self.now c.next_line.new.self c.in-Some.line.now next counted c.header_line.result _ c.header_line.ensures (sym c.on_line.ensures ∙ c.in_err-on_line.was));
       takes_one_line = ap (drop 1) (sym next);

@@ -8,7 +8,7 @@ use Rattle.recording.proofs.reader.entries.enter.Goals as goal
 
 pub returns-in_err-line : goal.returns-in_err-line
 returns-in_err-line c =
-    let p = err_from_is_err_and c.from-residual.result c.from-residual.ensures.1
+    let p = err_from_is_err_and c.from_residual.result c.from_residual.ensures.1
     in rw (p.1, p.2) (refl, λ h. unknown_line c.args.number (stage c.args.ended h (of_open c.args.graph.now)) c.args.line.now c.in_err-line.ensures.0 ∙ ap Some (sym c.in_err-line.ensures.1))
 
 pub returns-then-number-gt-LINES : goal.returns-then-number-gt-LINES
@@ -27,7 +27,7 @@ returns-in-Header c = (
 
 pub returns-in_err-fields : goal.returns-in_err-fields
 returns-in_err-fields c =
-    let p = err_from_is_err_and c.from-residual-in_err-fields.result c.from-residual-in_err-fields.ensures.1
+    let p = err_from_is_err_and c.from_residual-in_err-fields.result c.from_residual-in_err-fields.ensures.1
     in rw (p.1, p.2) (
       refl,
       λ h. bad_field c.args.number (stage c.args.ended h (of_open c.args.graph.now)) c.args.line.now c.in_ok-line.line.kind c.in_ok-line.line.rest.now c.in_ok-line.ensures.0 c.in_ok-line.ensures.1 c.in_err-fields.field-0.0

@@ -7,7 +7,7 @@ use Rattle.recording.proofs.reader.entries.header_line.Goals as goal
 
 pub returns-in_err-line : goal.returns-in_err-line
 returns-in_err-line c =
-    let p = err_from_is_err_and c.from-residual.result c.from-residual.ensures.1
+    let p = err_from_is_err_and c.from_residual.result c.from_residual.ensures.1
     in rw (p.1, p.2) (unknown_line c.args.number unopened c.args.line.now c.in_err-line.ensures.0 ∙ ap Some (sym c.in_err-line.ensures.1))
 
 pub returns-then-number-gt-LINES : goal.returns-then-number-gt-LINES
@@ -22,7 +22,7 @@ returns-in_default c =
 
 pub returns-in_err-fields : goal.returns-in_err-fields
 returns-in_err-fields c =
-    let p = err_from_is_err_and c.from-residual-in_err-fields.result c.from-residual-in_err-fields.ensures.1
+    let p = err_from_is_err_and c.from_residual-in_err-fields.result c.from_residual-in_err-fields.ensures.1
     in rw (p.1, p.2) (bad_field c.args.number unopened c.args.line.now c.in_ok-line.line.kind c.in_ok-line.line.rest.now c.in_ok-line.ensures.0 c.in_ok-line.ensures.1 c.in_err-fields.field-0.0
     (header_first c.args.number c.in_ok-line.line.kind c.if-number-gt-LINES.false c.in-Header.is) c.in_err-fields.ensures)
 

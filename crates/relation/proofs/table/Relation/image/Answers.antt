@@ -41,7 +41,7 @@ loop-m-preserved c =
 
 pub returns : goal.returns
 returns c = λ y.
-    let same = c.into_iter-m-iterator.ensures.into_iter-gives in (
+    let same = c.into_iter-m-iterator.ensures.into_iter_gives in (
       λ h.
           let w = c.loop-m.invariant.1 y (passed _ h) in
           (w.0, subst (λ (s : EventSet). T (has s w.0)) same w.1, w.2),

@@ -9,7 +9,7 @@ use Rattle.relation.proofs.table.Relation.lowest_free.Goals as goal
 
 pub loop-event-init : goal.loop-event-init
 loop-event-init c =
-    let same = c.into_iter-event-iterator.ensures.into_iter-gives in (
+    let same = c.into_iter-event-iterator.ensures.into_iter_gives in (
       λ x h. subst (λ (s : EventSet). T (has s x)) same h,
       λ x h. inl (subst (λ (s : EventSet). T (has s x)) (sym same) h),
     )

@@ -14,7 +14,7 @@ use crate::sc::Sc;
 use crate::tso::Tso;
 use event::Denial;
 use graph::Graph;
-use model::Model;
+use model::Model as MemoryModel;
 use relation::Relation;
 
 /// One of the five models.
@@ -45,7 +45,7 @@ impl Board {
     }
 }
 
-impl Model for Board {
+impl MemoryModel for Board {
     ghost meaning = { meaning_of };
 
     ghost few = { λ m. (board_rules m).few };

@@ -15,14 +15,14 @@ use model::laying::{
     add_at_one_location, add_modification_order, add_program_order, add_reads_before,
     add_reads_from,
 };
-use model::{Model, Synchronising};
+use model::{Model as MemoryModel, Synchronising};
 use relation::Relation;
 
 /// A releasing write synchronises with an acquiring read of it.
 #[derive(Clone, Copy)]
 pub struct C11;
 
-impl Model for C11 {
+impl MemoryModel for C11 {
     ghost meaning = { λ _. c11 };
 
     ghost few = { Prim.search rules };

@@ -4,7 +4,7 @@ ghost use Rattle.boards.specs.OfCoh.{coh_rules};
 ghost use Rattle.std.proofs.Common.{rules};
 
 use graph::Graph;
-use model::Model;
+use model::Model as MemoryModel;
 use model::laying::{
     add_at_one_location, add_modification_order, add_program_order, add_reads_before,
     add_reads_from,
@@ -15,7 +15,7 @@ use relation::Relation;
 #[derive(Clone, Copy)]
 pub struct Coh;
 
-impl Model for Coh {
+impl MemoryModel for Coh {
     ghost meaning = { λ _. coh };
 
     ghost few = { Prim.search rules };

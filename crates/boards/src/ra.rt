@@ -12,14 +12,14 @@ use model::laying::{
     add_at_one_location, add_modification_order, add_program_order, add_reads_before,
     add_reads_from,
 };
-use model::{Model, Synchronising};
+use model::{Model as MemoryModel, Synchronising};
 use relation::Relation;
 
 /// Every read synchronises with its source.
 #[derive(Clone, Copy)]
 pub struct Ra;
 
-impl Model for Ra {
+impl MemoryModel for Ra {
     ghost meaning = { λ _. ra };
 
     ghost few = { Prim.search rules };

@@ -4,7 +4,7 @@ ghost use Rattle.boards.specs.OfSc.{sc_rules};
 ghost use Rattle.std.proofs.Common.{rules};
 
 use graph::Graph;
-use model::Model;
+use model::Model as MemoryModel;
 use model::laying::{add_modification_order, add_program_order, add_reads_before, add_reads_from};
 use relation::Relation;
 
@@ -12,7 +12,7 @@ use relation::Relation;
 #[derive(Clone, Copy)]
 pub struct Sc;
 
-impl Model for Sc {
+impl MemoryModel for Sc {
     ghost meaning = { λ _. sc };
 
     ghost few = { Prim.search rules };

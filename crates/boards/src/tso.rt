@@ -13,7 +13,7 @@ use crate::lookup::event_of;
 use event::Label;
 use event_set::EventSet;
 use graph::Graph;
-use model::Model;
+use model::Model as MemoryModel;
 use model::laying::{add_modification_order, add_program_order, add_reads_before};
 use relation::Relation;
 
@@ -21,7 +21,7 @@ use relation::Relation;
 #[derive(Clone, Copy)]
 pub struct Tso;
 
-impl Model for Tso {
+impl MemoryModel for Tso {
     ghost meaning = { λ _. tso };
 
     ghost few = { Prim.search rules };

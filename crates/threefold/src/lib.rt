@@ -12,7 +12,7 @@ ghost use Rattle.threefold.specs.Kept;
 ghost use Rattle.std.proofs.Common.{rules};
 
 use graph::Graph;
-use model::Model;
+use model::Model as MemoryModel;
 use model::laying::{
     add_at_one_location, add_modification_order, add_program_order, add_reads_before,
     add_reads_from,
@@ -23,7 +23,7 @@ use relation::Relation;
 #[derive(Clone, Copy)]
 pub struct Threefold {}
 
-impl Model for Threefold {
+impl MemoryModel for Threefold {
     ghost meaning = { λ _. threefold };
 
     ghost few = { Prim.search rules };

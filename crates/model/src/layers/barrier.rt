@@ -9,7 +9,7 @@ ghost use Rattle.model.specs.Layers.{strong_fence, fenced, barrier, Piles};
 ghost use Rattle.model.specs.Layered.{layer_inside, fenced_grows, layer_beyond, layer_floor, layer_growth};
 ghost use Rattle.std.proofs.Common.{rules};
 
-use crate::interface::Model;
+use crate::interface::Model as MemoryModel;
 use crate::laying::program_order::add_program_order;
 use event::{Label, Mode};
 use event_set::EventSet;
@@ -22,7 +22,7 @@ pub struct Barrier<M> {
     below: M,
 }
 
-impl<M: Model> Barrier<M> {
+impl<M: MemoryModel> Barrier<M> {
     pub fn new(below: M) -> Barrier<M>
         ensures holds_the_model_below { result.below ≡ below }
         ensures stands_over_the_model_below { Over (barrier (M.Model.meaning result.below)) (M.Model.meaning below) }
@@ -32,7 +32,7 @@ impl<M: Model> Barrier<M> {
     }
 }
 
-impl<M: Model> Model for Barrier<M> {
+impl<M: MemoryModel> MemoryModel for Barrier<M> {
     ghost meaning = { λ m. barrier (M.Model.meaning m.below) };
 
     ghost few = { Prim.search rules };

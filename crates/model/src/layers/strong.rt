@@ -7,7 +7,7 @@ ghost use Rattle.model.specs.Layers.{has_thread, within_threads, strong, Piles};
 ghost use Rattle.model.specs.Layered.{layer_inside, within_threads_grows, layer_beyond, layer_floor, layer_growth};
 ghost use Rattle.std.proofs.Common.{rules};
 
-use crate::interface::Model;
+use crate::interface::Model as MemoryModel;
 use crate::laying::program_order::add_thread_order;
 use graph::Graph;
 use relation::Relation;
@@ -19,7 +19,7 @@ pub struct Strong<M> {
     threads: u16,
 }
 
-impl<M: Model> Strong<M> {
+impl<M: MemoryModel> Strong<M> {
     pub fn new(below: M, threads: u16) -> Strong<M>
         ensures holds_the_model_below { result.below ≡ below }
         ensures holds_the_set { result.threads ≡ threads }
@@ -30,7 +30,7 @@ impl<M: Model> Strong<M> {
     }
 }
 
-impl<M: Model> Model for Strong<M> {
+impl<M: MemoryModel> MemoryModel for Strong<M> {
     ghost meaning = { λ m. strong m.threads (M.Model.meaning m.below) };
 
     ghost few = { Prim.search rules };

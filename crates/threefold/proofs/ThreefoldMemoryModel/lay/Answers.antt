@@ -2,7 +2,7 @@ use Rattle.std.proofs.Common.{refl, arith}
 use Rattle.execution.specs.Content.{po, rf, mo}
 use Rattle.graph.specs.View.{view}
 use Rattle.threefold.proofs.Orders.{is_first, is_second, is_third}
-use Rattle.threefold.proofs.ThreefoldModel.lay.Goals as goal
+use Rattle.threefold.proofs.ThreefoldMemoryModel.lay.Goals as goal
 
 pub returns-in-0 : goal.returns-in-0
 returns-in-0 c = record {

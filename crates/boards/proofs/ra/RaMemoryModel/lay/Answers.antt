@@ -3,7 +3,7 @@ use Rattle.execution.specs.Content.{same_location, mo, rb}
 use Rattle.graph.specs.View.{view}
 use Rattle.boards.specs.Ra.{ra_hb}
 use Rattle.boards.proofs.Laid.{three, at_order}
-use Rattle.boards.proofs.ra.RaModel.lay.Goals as goal
+use Rattle.boards.proofs.ra.RaMemoryModel.lay.Goals as goal
 
 pub returns-then-order-eq0 : goal.returns-then-order-eq0
 returns-then-order-eq0 c = record {

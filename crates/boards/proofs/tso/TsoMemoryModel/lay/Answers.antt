@@ -3,7 +3,7 @@ use Rattle.graph.specs.View.{view}
 use Rattle.boards.specs.Coh.{coh_order}
 use Rattle.boards.specs.Tso.{ppo, rfe}
 use Rattle.boards.proofs.Laid.{at_next_order}
-use Rattle.boards.proofs.tso.TsoModel.lay.Goals as goal
+use Rattle.boards.proofs.tso.TsoMemoryModel.lay.Goals as goal
 
 pub returns-then-order-eq1 : goal.returns-then-order-eq1
 returns-then-order-eq1 c = record {

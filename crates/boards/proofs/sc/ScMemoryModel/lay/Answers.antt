@@ -1,7 +1,7 @@
 use Rattle.execution.specs.Content.{po, rf, mo, rb}
 use Rattle.graph.specs.View.{view}
 use Rattle.boards.proofs.Laid.{four, at_order}
-use Rattle.boards.proofs.sc.ScModel.lay.Goals as goal
+use Rattle.boards.proofs.sc.ScMemoryModel.lay.Goals as goal
 
 pub returns-then-order-eq0 : goal.returns-then-order-eq0
 returns-then-order-eq0 c = record {

@@ -10,7 +10,7 @@ use Rattle.search.proofs.Kept.{rules_of}
 use Rattle.search.proofs.Left.{opens_from, fewer_placed, fewer_left_out}
 use Rattle.search.proofs.Walking.{lowest, none_left, tried_one_more, found_first, fails_at_once, fails_further_on, none_tells, found_tells}
 use Rattle.search.proofs.filling.+fill_fits.Goals as goal
-use Rattle.search.proofs.filling.+fill_fits.Goals.{fill-in-Some-placed_after+in-default-fill+else-not-others_fit, fill-in_default-placed_after}
+use Rattle.search.proofs.filling.+fill_fits.Goals.{fill-in-Some-placed_after+in_default-fill+else-not-others_fit, fill-in_default-placed_after}
 
 pub fill-returns-in_default : goal.fill-returns-in_default
 fill-returns-in_default g t c =
@@ -29,14 +29,14 @@ fill-fill-requires g t c κs within =
 pub fill-returns-in-Some-fill : goal.fill-returns-in-Some-fill
 fill-returns-in-Some-fill g t c =
     let m = g.M.Model.meaning c.args.model.now in
-    let it = ap (λ (xs : List ℕ). get_or xs c.loop-after.after-index 0) c.placed_after-items.ensures.placed_writes_in_order in
+    let it = ap (λ (xs : List ℕ). get_or xs c.loop-after.after-index 0) c.placed-after-items.ensures.placed_writes_in_order in
     let put = c.in-Some-placed_after.ensures in
-    let within : c.loop-after.after-index < length (view c.args.graph.now).placed = omega (arith, ap length c.placed_after-items.ensures.placed_writes_in_order) in
+    let within : c.loop-after.after-index < length (view c.args.graph.now).placed = omega (arith, ap length c.placed-after-items.ensures.placed_writes_in_order) in
     found_first (view c.args.graph.now) (sound_of c.args.graph.now) c.args.from c.in-Some.write c.in-Some.ensures.lowest_open_write_from_there
     m c.loop-after.after-index _ it c.loop-after.invariant within put.0 (view c.in-Some-placed_after.tried) (view c.in-Some-fill.full) put.1 c.in-Some-fill.ensures
 
-pub fill_fits-requires : goal.fill_fits-requires
-fill_fits-requires g t c κs within =
+pub fill-fits-requires : goal.fill-fits-requires
+fill-fits-requires g t c κs within =
     let next = c.in-Some.ensures.lowest_open_write_from_there in
     let s = sound_of c.args.graph.now in
     let v = view c.args.graph.now in
@@ -59,10 +59,10 @@ fill-loop-after-preserved g t c =
     let laws = g.met.M.Model in
     let s = sound_of c.args.graph.now in
     let v = view c.args.graph.now in
-    let it = ap (λ (xs : List ℕ). get_or xs c.loop-after.after-index 0) c.placed_after-items.ensures.placed_writes_in_order in
+    let it = ap (λ (xs : List ℕ). get_or xs c.loop-after.after-index 0) c.placed-after-items.ensures.placed_writes_in_order in
     tried_one_more v s c.args.from c.in-Some.write c.in-Some.ensures.lowest_open_write_from_there
     m c.loop-after.after-index _ it c.loop-after.invariant (elim c.match-placed_after.branch [
-      | fill-in-Some-placed_after+in-default-fill+else-not-others_fit w ↦
+      | fill-in-Some-placed_after+in_default-fill+else-not-others_fit w ↦
           fails_further_on m c.args.from v s c.in-Some.write _ (view w.in-Some-placed_after.tried) w.in-Some-placed_after.ensures.1 w.in_default-fill.ensures
       | fill-in_default-placed_after w ↦
           fails_at_once m c.args.from v s c.in-Some.write _
@@ -74,10 +74,10 @@ pub fill-returns : goal.fill-returns
 fill-returns g t c =
     let m = g.M.Model.meaning c.args.model.now in
     none_left (view c.args.graph.now) (sound_of c.args.graph.now) c.args.from c.in-Some.write c.in-Some.ensures.lowest_open_write_from_there
-    m c.loop-after.after-index (omega (arith, ap length c.placed_after-items.ensures.placed_writes_in_order)) c.loop-after.invariant
+    m c.loop-after.after-index (omega (arith, ap length c.placed-after-items.ensures.placed_writes_in_order)) c.loop-after.invariant
 
-pub fits-overflow-add-write : goal.fits-overflow-add-write
-fits-overflow-add-write g t c =
+pub fits-overflow_add-write : goal.fits-overflow_add-write
+fits-overflow_add-write g t c =
     let v = view c.args.graph.now in
     let among = write_among v c.in-Some.write (left (is_write (label_of v c.in-Some.write)) _ c.in-Some.ensures.lowest_open_write_from_there.1) in
     omega (arith, among, (sound_of c.args.graph.now).few_events)

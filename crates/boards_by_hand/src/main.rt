@@ -91,9 +91,9 @@ fn show(rt: &impl Print, table: &Relation) -> io::Result<()> {
     for a in 0..16u8 {
         let row = table.row(a);
         if !row.is_empty() {
-            print!(rt, "{a}:")?;
+            print!(rt; "{a}:")?;
             for b in row {
-                print!(rt, " {b}")?;
+                print!(rt; " {b}")?;
             }
             println!(rt; "")?;
         }

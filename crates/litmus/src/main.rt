@@ -26,9 +26,9 @@ fn main(rt: HostRuntime) -> anyhow::Result<()> {
 }
 
 fn run(rt: &HostRuntime) -> anyhow::Result<()> {
-    print!(rt, "{:28}", "")?;
+    print!(rt; "{:28}", "")?;
     for column in COLUMNS {
-        print!(rt, "{column:>6}")?;
+        print!(rt; "{column:>6}")?;
     }
     println!(rt; "")?;
     for file in env::args(rt)?.skip(1) {
@@ -44,7 +44,7 @@ fn row(rt: &HostRuntime, file: &str) -> anyhow::Result<()> {
         return Err(anyhow!(format!(in rt.alloc(); "{file} is no recording")?));
     };
     let name = file.strip_suffix(".txt").unwrap_or(file);
-    print!(rt, "{name:<28}")?;
+    print!(rt; "{name:<28}")?;
     bare(rt, &recording.graph)?;
     with_barrier(rt, &recording.graph)?;
     with_strong_threads(rt, &recording.graph)?;
@@ -90,5 +90,5 @@ fn cell<M: Model>(rt: &HostRuntime, graph: &Closed, model: &M) -> io::Result<()>
         Ok(Verdict::NoPlacement) => "N",
         Err(_) => "D",
     };
-    print!(rt, "{letter:>6}")
+    print!(rt; "{letter:>6}")
 }

@@ -101,9 +101,9 @@ fn judge(rt: &HostRuntime, recording: &Recording) -> anyhow::Result<()> {
 
 /// The first numbers of a sheet, on a line.
 fn show(rt: &HostRuntime, sheet: &[u16], count: usize) -> anyhow::Result<()> {
-    print!(rt, "shown:")?;
+    print!(rt; "shown:")?;
     for event in sheet.iter().take(count) {
-        print!(rt, " {event}")?;
+        print!(rt; " {event}")?;
     }
     println!(rt; "")?;
     Ok(())

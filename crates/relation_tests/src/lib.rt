@@ -1,6 +1,6 @@
 //! Hand-made relations, with the answers worked out by hand.
 #[cfg(test)]
-mod cycles;
+mod cycling;
 #[cfg(test)]
 mod listings;
 #[cfg(test)]

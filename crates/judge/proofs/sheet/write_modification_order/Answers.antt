@@ -38,10 +38,10 @@ loop-write-preserved c =
     let fits : at + length (filter p xs) ≤ length s = omega (arith, all, c.requires) in
     elim c.if-accesses.branch [
       | then-accesses w ↦
-          subst₂ (λ (t : List ℕ) (k : ℕ). (t ≡ put at (filter p (take (i + 1) xs)) s) × (k ≡ at + length (filter p (take (i + 1) xs)))) (sym w.sheet_is) (sym w.at-is)
+          subst₂ (λ (t : List ℕ) (k : ℕ). (t ≡ put at (filter p (take (i + 1) xs)) s) × (k ≡ at + length (filter p (take (i + 1) xs)))) (sym w.sheet-is) (sym w.at-is)
           (put_kept p xs i c.loop-write-test.true at c.loop-write.at _ s c.loop-write.sheet c.loop-write.invariant.0 c.loop-write.invariant.1 fits w.from.ensures (sym w.if-accesses.ensures))
       | else-accesses w ↦
-          subst₂ (λ (t : List ℕ) (k : ℕ). (t ≡ put at (filter p (take (i + 1) xs)) s) × (k ≡ at + length (filter p (take (i + 1) xs)))) (sym w.sheet_is) (sym w.at-is)
+          subst₂ (λ (t : List ℕ) (k : ℕ). (t ≡ put at (filter p (take (i + 1) xs)) s) × (k ≡ at + length (filter p (take (i + 1) xs)))) (sym w.sheet-is) (sym w.at-is)
           (put_none_kept p xs i c.loop-write-test.true at c.loop-write.at 0 s c.loop-write.sheet c.loop-write.invariant.0 c.loop-write.invariant.1 (sym w.if-accesses.ensures))
     ]
 

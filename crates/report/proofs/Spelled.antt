@@ -23,7 +23,6 @@ spelled n xs rest l e = subst (λ (ys : List ℕ). get_or xs 0 0 ∷ (get_or xs 
 
 pub line_spelled : (letter a b c : ℕ) (xs ys zs : List ℕ) → a ≤ 9999 → b ≤ 9999 → c ≤ 9999 → xs ≡ justified 4 a → ys ≡ justified 4 b → zs ≡ justified 4 c
     → letter ∷ (get_or xs 0 0 ∷ (get_or xs 1 0 ∷ (get_or xs 2 0 ∷ (get_or xs 3 0 ∷ (get_or ys 0 0 ∷ (get_or ys 1 0 ∷ (get_or ys 2 0 ∷ (get_or ys 3 0 ∷ (get_or zs 0 0 ∷ (get_or zs 1 0 ∷ (get_or zs 2 0 ∷ (get_or zs 3 0 ∷ (10 ∷ []))))))))))))) ≡ report_line letter a b c
-unfolding report_line
 line_spelled letter a b c xs ys zs la lb lc ea eb ec =
     let third = spelled c zs (10 ∷ []) lc ec in
     let second = spelled b ys (justified 4 c ++ (10 ∷ [])) lb eb in
@@ -31,7 +30,6 @@ line_spelled letter a b c xs ys zs la lb lc ea eb ec =
     cc
 
 pub line_length : (letter a b c : ℕ) → a ≤ 9999 → b ≤ 9999 → c ≤ 9999 → length (report_line letter a b c) ≡ 14
-unfolding report_line
 line_length letter a b c la lb lc =
     let first = length_justified 4 a (four_digits a la) in
     let second = length_justified 4 b (four_digits b lb) in

@@ -32,7 +32,7 @@ write_list-at-requires c =
     record {
       number_fits = omega (arith, c.requires.orders_fit, c.loop-order-test.true);
       listable = subst Listable (sym c.split_at.ensures.front) (listable_take c.args.events c.loop-order.rest.now c.loop-order.invariant.3);
-      room = omega (arith, less, c.split_at.ensures.front-len, c.loop-order.invariant.1, c.loop-order.auto.page, c.requires.room);
+      room = omega (arith, less, c.split_at.ensures.front_len, c.loop-order.invariant.1, c.loop-order.auto.page, c.requires.room);
     }
 
 pub loop-order-preserved : goal.loop-order-preserved
@@ -49,7 +49,7 @@ loop-order-preserved c =
     let fits : Fits i = omega (arith, c.requires.orders_fit, c.loop-order-test.true) in
     let written : Written c.loop-order.at (lines_from 79 i 0 (take n rest)) c.loop-order.page c.write_list-at.result c.write_list-at.new.page =
     subst (λ (xs : List ℕ). Written c.loop-order.at (lines_from 79 i 0 xs) c.loop-order.page c.write_list-at.result c.write_list-at.new.page) front c.write_list-at.ensures in
-    let many : length (take n rest) ≡ n = ap length (sym front) ∙ c.split_at.ensures.front-len in
+    let many : length (take n rest) ≡ n = ap length (sym front) ∙ c.split_at.ensures.front_len in
     let long : length (lines_from 79 i 0 (take n rest)) ≡ 14 * length (take n rest) = lines_length 79 i 0 (take n rest) fits (omega (arith, part.few)) part.each in
     let whole = lists_from 79 0 (cut k n c.args.sheet.now) in
     let on = left_on c.args.at whole c.args.page.now c.loop-order.at (lines_from 79 i 0 (take n rest)) (lists_from 79 (i + 1) (cut r n (drop n rest))) _ c.loop-order.page _ _

@@ -39,7 +39,7 @@ write_lists-at-requires c =
     record {
       orders_fit = omega (arith, c.requires.few);
       listable = subst Listable (sym c.split_at.ensures.front) (listable_take (c.args.orders * length c.events-events.result.now) c.args.sheet.now c.requires.listable);
-      there = omega (arith, c.split_at.ensures.front-len);
+      there = omega (arith, c.split_at.ensures.front_len);
       room = omega (arith, few, head, c.write_line-at.ensures.ends, c.write_line-at.auto.page, c.requires.page_is_long);
     }
 
@@ -49,7 +49,7 @@ lists_long c =
     let k = c.args.orders in
     let n = length c.events-events.result.now in
     let front = subst Listable (sym c.split_at.ensures.front) (listable_take (k * n) c.args.sheet.now c.requires.listable) in
-    omega (arith, cut_lines k n c.split_at.result.0.now c.requires.few front, c.split_at.ensures.front-len, lists_few k n c.requires.few (few_of c))
+    omega (arith, cut_lines k n c.split_at.result.0.now c.requires.few front, c.split_at.ensures.front_len, lists_few k n c.requires.few (few_of c))
 
 pub write_orders-requires : goal.write_orders-requires
 write_orders-requires c =
@@ -59,7 +59,7 @@ write_orders-requires c =
     record {
       listable = subst Listable (sym c.split_at-2.ensures.front)
           (listable_take c.writes_of-writes.result c.split_at.result.1.now (subst Listable (sym c.split_at.ensures.back) (listable_drop k c.args.sheet.now c.requires.listable)));
-      room = omega (arith, head, lists, c.write_line-at.ensures.ends, c.write_line-at.auto.page, c.write_lists-at.ensures.ends, c.write_lists-at.auto.page, c.split_at-2.ensures.front-len, c.writes_of-writes.ensures.few, c.requires.page_is_long);
+      room = omega (arith, head, lists, c.write_line-at.ensures.ends, c.write_line-at.auto.page, c.write_lists-at.ensures.ends, c.write_lists-at.auto.page, c.split_at-2.ensures.front_len, c.writes_of-writes.ensures.few, c.requires.page_is_long);
     }
 
 pub returns : goal.returns

@@ -1,10 +1,10 @@
 -- Relations as tests agree with the textbook's.
-use Rattle.std.specs.Prelude.{◌≡◌, ℕ, ◌<◌, Bool, true, false, not, ◌&&◌, ◌||◌, T, ◌⊎◌, List, [], ◌∷◌, length, is_some, Some, None, Option, ◌==◌, ◌≢◌, nat_lt, refl}
+use Rattle.std.specs.Prelude.{◌≡◌, ℕ, ◌<◌, Bool, false, not, ◌&&◌, ◌||◌, T, ◌⊎◌, List, [], ◌∷◌, length, is_some, Some, None, Option, ◌==◌, ◌≢◌, nat_lt, refl}
 use Rattle.std.proofs.Common.{sym, subst, ap, ◌∙◌, inl, inr, eqb→eq, ltb→lt, arith}
 use Rattle.std.proofs.Math.Dec.{eqb_refl}
 use Rattle.std.proofs.lemmas.Bool.{cases_eq}
 use Rattle.std.proofs.lemmas.Bool.Decides.{nat_tests}
-use Rattle.event.specs.Labels.{agree, location, value_read, value_written, is_read, is_write}
+use Rattle.event.specs.Labels.{agree, location, value_read, value_written}
 use Rattle.execution.specs.Lists.{holds, precedes, distinct}
 use Rattle.execution.specs.Content.{Content, thread_of, label_of, source_of, same_location, po, rf, mo, rb}
 use Rattle.execution.specs.Sound.{Sound}
@@ -20,7 +20,6 @@ use Rattle.execution.proofs.Tests.{both, left, right, either, no, yes_no, is_tru
 use Rattle.model.specs.Either.{or_left, or_right}
 use Rattle.model.specs.Growing.{rb_source, source_rb}
 use Rattle.boards.specs.Stepping.{steps_are_one_or_more}
-use Rattle.model.specs.Meaning.{Serves}
 
 -- a test and a proposition that hold of the same pairs
 abbrev pub Same : (ℕ → ℕ → Bool) → (ℕ → ℕ → Type 0) → Type 0

@@ -1,5 +1,5 @@
 -- Models of one order and of two keep the rules, where their relations grow and the first holds what every model orders.
-use Rattle.std.specs.Prelude.{◌≡◌, ℕ, ◌<◌, ◌≤◌, Bool, ◌&&◌, ◌||◌, T, ◌⊎◌, ◌==◌}
+use Rattle.std.specs.Prelude.{ℕ, Bool, ◌&&◌, T, ◌==◌}
 use Rattle.std.proofs.Common.{inl, inr, eqb→eq, lit≤, arith}
 use Rattle.execution.specs.Content.{Content, same_location, po, rf, mo, rb}
 use Rattle.execution.specs.Sound.{Sound}

@@ -19,7 +19,7 @@ use Rattle.boards.specs.Keeping.{one_order_rules, rest_grows, coheres}
 use Rattle.boards.specs.Textbook as book
 use Rattle.boards.specs.Textbook.{na_rlx, rlx_acq, rlx_rel, acq_acqrel, rel_acqrel, acqrel_sc, as_strong, stronger}
 use Rattle.boards.specs.Agreement.{Follows}
-use Rattle.boards.specs.Agreeing.{MO, Same, same_itself, same_union, same_near, same_steps, same_rest, follows_one}
+use Rattle.boards.specs.Agreeing.{Same, same_itself, same_union, same_near, same_steps, same_rest, follows_one}
 
 sw_grows : Grows sw
 sw_grows = part rf (λ g a b. releases (mode_of (label_of g a)) && acquires (mode_of (label_of g b))) rf_grows

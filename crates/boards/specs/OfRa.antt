@@ -12,7 +12,7 @@ use Rattle.boards.specs.Stepping.{steps_grow, one_step}
 use Rattle.boards.specs.Keeping.{one_order_rules}
 use Rattle.boards.specs.Textbook as book
 use Rattle.boards.specs.Agreement.{Follows}
-use Rattle.boards.specs.Agreeing.{MO, Same, same_itself, same_union, same_near, same_steps, same_rb, follows_one}
+use Rattle.boards.specs.Agreeing.{Same, same_itself, same_union, same_near, same_steps, same_rb, follows_one}
 
 pub po_or_rf_grows : Grows (λ g. po g ∪ rf g)
 po_or_rf_grows = join po rf po_grows rf_grows

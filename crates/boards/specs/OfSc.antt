@@ -7,7 +7,7 @@ use Rattle.model.specs.Growing.{join, po_grows}
 use Rattle.boards.specs.Keeping.{one_order_rules, rest_grows, coheres}
 use Rattle.boards.specs.Textbook as book
 use Rattle.boards.specs.Agreement.{Follows}
-use Rattle.boards.specs.Agreeing.{MO, same_itself, same_union, same_rest, follows_one}
+use Rattle.boards.specs.Agreeing.{same_itself, same_union, same_rest, follows_one}
 
 pub sc_rules : Rules sc
 sc_rules = one_order_rules sc_order (join po (λ g. rf g ∪ mo g ∪ rb g) po_grows rest_grows) (λ g s. coheres g (po g) (λ a b x y. x))

@@ -1,21 +1,20 @@
 -- TSO keeps the rules, and follows the textbook.
-use Rattle.std.specs.Prelude.{ℕ, Bool, not, ◌&&◌, T, ◌==◌, nat_eq}
+use Rattle.std.specs.Prelude.{Bool, not, ◌&&◌, T, ◌==◌, nat_eq}
 use Rattle.std.proofs.Common.{ap₂, eqb→eq}
 use Rattle.event.specs.declared.event.Label.{Label}
 use Rattle.event.specs.Labels.{is_read, is_write}
 use Rattle.execution.specs.Content.{Content, thread_of, label_of, po, rf, mo, rb}
-use Rattle.execution.specs.Sound.{Sound}
 use Rattle.execution.proofs.Tests.{both, left, right, no, yes_no, same}
 use Rattle.model.specs.Meaning.{Rules}
 use Rattle.boards.specs.Relations.{◌∪◌}
-use Rattle.boards.specs.Coh.{coh, coh_order}
+use Rattle.boards.specs.Coh.{coh_order}
 use Rattle.boards.specs.Tso.{plain_write, plain_read, ppo, rfe, tso_order, tso}
 use Rattle.model.specs.Growing.{Grows, join, part, label_within, thread_within, rf_grows, po_grows, mo_grows, rb_grows}
 use Rattle.boards.specs.Keeping.{two_orders_rules}
 use Rattle.boards.specs.OfCoh.{coh_grows, coh_rules, coh_same}
 use Rattle.boards.specs.Textbook as book
 use Rattle.boards.specs.Agreement.{Follows}
-use Rattle.boards.specs.Agreeing.{MO, Same, same_itself, same_union, same_rb, follows_two}
+use Rattle.boards.specs.Agreeing.{Same, same_itself, same_union, same_rb, follows_two}
 
 ppo_grows : Grows ppo
 ppo_grows = part po (λ g a b. not (plain_write (label_of g a) && plain_read (label_of g b))) po_grows

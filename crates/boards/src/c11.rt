@@ -6,7 +6,6 @@ ghost use Rattle.graph.specs.View.{view};
 ghost use Rattle.relation.specs.Table.{holds, Is};
 ghost use Rattle.boards.specs.C11.{c11, c11_hb, sw, releases, acquires};
 ghost use Rattle.boards.specs.OfC11.{c11_rules};
-ghost use Rattle.std.proofs.Common.{rules};
 
 use crate::lookup::event_of;
 use event::Mode;
@@ -25,7 +24,7 @@ pub struct C11;
 impl MemoryModel for C11 {
     ghost meaning = { λ _. c11 };
 
-    ghost few = { Prim.search rules };
+    ghost few = { λ m. c11_rules.few };
 
     ghost inside = { λ m. c11_rules.inside };
 

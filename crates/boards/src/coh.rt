@@ -1,7 +1,6 @@
 //! COH: coherence.
 ghost use Rattle.boards.specs.Coh.{coh};
 ghost use Rattle.boards.specs.OfCoh.{coh_rules};
-ghost use Rattle.std.proofs.Common.{rules};
 
 use graph::Graph;
 use model::Model as MemoryModel;
@@ -18,7 +17,7 @@ pub struct Coh;
 impl MemoryModel for Coh {
     ghost meaning = { λ _. coh };
 
-    ghost few = { Prim.search rules };
+    ghost few = { λ m. coh_rules.few };
 
     ghost inside = { λ m. coh_rules.inside };
 

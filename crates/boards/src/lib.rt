@@ -1,4 +1,6 @@
 //! The five memory models, one file each, and the choice of one by its number.
+#![tactic(auto)]
+
 pub mod board;
 pub mod c11;
 pub mod coh;

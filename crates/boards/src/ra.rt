@@ -5,7 +5,6 @@ ghost use Rattle.graph.specs.View.{view};
 ghost use Rattle.relation.specs.Table.{holds, Is};
 ghost use Rattle.boards.specs.Ra.{ra, ra_hb};
 ghost use Rattle.boards.specs.OfRa.{ra_rules};
-ghost use Rattle.std.proofs.Common.{rules};
 
 use graph::Graph;
 use model::laying::{
@@ -22,7 +21,7 @@ pub struct Ra;
 impl MemoryModel for Ra {
     ghost meaning = { λ _. ra };
 
-    ghost few = { Prim.search rules };
+    ghost few = { λ m. ra_rules.few };
 
     ghost inside = { λ m. ra_rules.inside };
 

@@ -1,7 +1,6 @@
 //! SC: sequential consistency.
 ghost use Rattle.boards.specs.Sc.{sc};
 ghost use Rattle.boards.specs.OfSc.{sc_rules};
-ghost use Rattle.std.proofs.Common.{rules};
 
 use graph::Graph;
 use model::Model as MemoryModel;
@@ -15,7 +14,7 @@ pub struct Sc;
 impl MemoryModel for Sc {
     ghost meaning = { λ _. sc };
 
-    ghost few = { Prim.search rules };
+    ghost few = { λ m. sc_rules.few };
 
     ghost inside = { λ m. sc_rules.inside };
 

@@ -6,7 +6,6 @@ ghost use Rattle.event_set.specs.Sets.{HasJust};
 ghost use Rattle.relation.specs.Table.{holds, Is};
 ghost use Rattle.boards.specs.Tso.{tso, ppo, rfe, plain_write, plain_read};
 ghost use Rattle.boards.specs.OfTso.{tso_rules};
-ghost use Rattle.std.proofs.Common.{rules};
 
 use crate::coh::Coh;
 use crate::lookup::event_of;
@@ -24,7 +23,7 @@ pub struct Tso;
 impl MemoryModel for Tso {
     ghost meaning = { λ _. tso };
 
-    ghost few = { Prim.search rules };
+    ghost few = { λ m. tso_rules.few };
 
     ghost inside = { λ m. tso_rules.inside };
 

@@ -1,4 +1,6 @@
 //! Prints the orders of two small graphs under each model. What it must print was worked out by hand.
+#![tactic(auto)]
+
 use boards::{Board, C11, Ra};
 use event::{Arguments, Denial, Kind, Size};
 use graph::{Graph, Open};

@@ -1,26 +1,24 @@
 -- A right answer on a closed graph, in the textbook's terms.
-use Rattle.std.proofs.Common.{◌≡◌, ℕ, zero, suc, ◌<◌, Bool, true, false, cond, not, ◌&&◌, T, ◌⊎◌, ◌↔◌, List, [], length, get_or, is_some, IfOk, Some, None, Ok, Err, Option, Result, sym, refl, ap, ◌∙◌, subst, inl, inr, arith}
+use Rattle.std.proofs.Common.{◌≡◌, ℕ, zero, suc, ◌<◌, Bool, true, false, cond, not, T, ◌↔◌, List, length, get_or, is_some, IfOk, Some, None, Ok, Err, Option, Result, sym, refl, ap, ◌∙◌, subst, inl, inr, arith}
 use Rattle.std.proofs.lemmas.Bool.{cases_lt}
 use Rattle.event.specs.declared.denial.Denial.{Denial}
 use Rattle.event.specs.declared.denial.Denial.TheVariants.{Unread}
 use Rattle.event.specs.declared.event.Event.{Event}
-use Rattle.event.specs.Labels.{is_read, is_write, no_event}
-use Rattle.execution.specs.Content.{Content, label_of, source_of, mo}
+use Rattle.event.specs.Labels.{is_read, no_event}
+use Rattle.execution.specs.Content.{Content, label_of, source_of}
 use Rattle.execution.specs.Sound.{Sound}
-use Rattle.execution.proofs.Tests.{both, no}
+use Rattle.execution.proofs.Tests.{both}
 use Rattle.execution.proofs.Among.{read_among}
-use Rattle.model.specs.Meaning.{Meaning, Rules, Serves}
 use Rattle.boards.specs.declared.board.Board.{Board}
-use Rattle.boards.specs.Agreement.{Full, Follows}
-use Rattle.boards.specs.Boards.{meaning_of, ConsistentUnder}
+use Rattle.boards.specs.Agreement.{Full}
+use Rattle.boards.specs.Boards.{meaning_of}
 use Rattle.boards.specs.OfBoard.{board_rules, board_follows}
 use Rattle.verdict.specs.declared.verdict.Verdict.{Verdict}
-use Rattle.verdict.specs.declared.verdict.Verdict.TheVariants.{Allowed as is-allowed}
 use Rattle.verdict.specs.Numbers.{lowest}
 use Rattle.verdict.specs.Completions.{Completion, Allowed}
-use Rattle.verdict.specs.States.{State, as_closed}
-use Rattle.verdict.specs.Denials.{unlinked, unread, judge_denial}
-use Rattle.verdict.specs.Answers.{Answer, allowed, cyclic, no_placement, denied, Found, RightUnless, RightAnswer, told}
+use Rattle.verdict.specs.States.{as_closed}
+use Rattle.verdict.specs.Denials.{unlinked, judge_denial}
+use Rattle.verdict.specs.Answers.{Answer, allowed, cyclic, no_placement, denied, RightUnless, told}
 use Rattle.verdict.specs.Judging.{Judged}
 use Rattle.verdict.proofs.Runs.{some_serves, none_serves}
 use Rattle.consistency.specs.Consistency.{SomeOrderIsConsistent, AllowedExactlyWhenConsistent}

@@ -1,5 +1,5 @@
 -- A verdict in the textbook's terms.
-use Rattle.std.specs.Prelude.{◌≡◌, ℕ, T, ◌↔◌}
+use Rattle.std.specs.Prelude.{◌≡◌, T, ◌↔◌}
 use Rattle.execution.specs.Content.{Content, mo}
 use Rattle.boards.specs.declared.board.Board.{Board}
 use Rattle.boards.specs.Boards.{ConsistentUnder}

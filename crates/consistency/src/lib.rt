@@ -1,4 +1,5 @@
 //! Judging a closed graph by one of the five models, in the textbook's terms.
+#![tactic(auto)]
 
 ghost use Rattle.boards.specs.Boards.{meaning_of};
 ghost use Rattle.consistency.specs.Consistency.{AllowedExactlyWhenConsistent};

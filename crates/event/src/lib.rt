@@ -1,4 +1,5 @@
 //! Events: what a thread did, why a call is denied, and the sizes that a graph may have.
+#![tactic(auto)]
 
 pub mod denial;
 pub mod event;

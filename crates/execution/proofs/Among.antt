@@ -1,5 +1,5 @@
 -- What has a label with a location, or a source, is among the events.
-use Rattle.std.proofs.Common.{◌≡◌, ℕ, ◌<◌, T, ◌⊎◌, length, get_or, Some, None, subst, inl, inr}
+use Rattle.std.proofs.Common.{ℕ, ◌<◌, T, length, Some, None, subst, inl, inr}
 use lib.ListN.{get_or-eq_default}
 use Rattle.std.proofs.lemmas.Bool.{cases_lt}
 use Rattle.event.specs.Labels.{no_event, agree, is_read, is_write}

@@ -1,5 +1,5 @@
 -- What an entry that is not denied has passed.
-use Rattle.std.proofs.Common.{◌≡◌, ℕ, ◌<◌, ◌≤◌, Bool, true, false, not, ◌&&◌, ◌||◌, T, ltb, leb, length, is_some, Some, None, Option, refl, arith, ltb→lt, leb→le}
+use Rattle.std.proofs.Common.{◌≡◌, ℕ, ◌<◌, ◌≤◌, Bool, true, false, not, ◌&&◌, ◌||◌, T, ltb, leb, length, is_some, None, Option, arith, ltb→lt, leb→le}
 use Rattle.event.specs.declared.event.Kind.{Kind}
 use Rattle.event.specs.declared.event.Arguments.{Arguments}
 use Rattle.event.specs.declared.denial.Denial.{Denial}

@@ -1,5 +1,5 @@
 -- A link: the graph stays sound, and only grows.
-use Rattle.std.proofs.Common.{◌≡◌, ℕ, ◌<◌, not, T, ◌⊎◌, length, get_or, set, is_some, Some, None, Option, sym, refl, ap, ◌∙◌, subst, inl, inr, arith, eqb→eq, length-set, get_or-set_other, get_or-set_same}
+use Rattle.std.proofs.Common.{◌≡◌, ℕ, not, T, is_some, Some, None, Option, sym, refl, ◌∙◌, subst, inl, inr, arith, eqb→eq, length-set, get_or-set_other, get_or-set_same}
 use Rattle.std.proofs.lemmas.Bool.{cases_eq}
 use Rattle.event.specs.Labels.{agree}
 use Rattle.execution.specs.Content.{Content, source_of, rf}

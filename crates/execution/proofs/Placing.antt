@@ -1,9 +1,9 @@
 -- A placed write: the graph stays sound, and only grows.
-use Rattle.std.proofs.Common.{◌≡◌, ℕ, ◌<◌, T, ◌⊎◌, None, sym, refl, subst, inl, inr, arith}
+use Rattle.std.proofs.Common.{◌≡◌, ℕ, ◌<◌, T, None, sym, refl, subst, inl, inr, arith}
 use Rattle.std.proofs.lemmas.Bool.{cases_eq}
 use Rattle.event.specs.declared.event.Label.{Label}
 use Rattle.event.specs.Labels.{is_write, one_location}
-use Rattle.execution.specs.Lists.{holds, precedes, insert_after}
+use Rattle.execution.specs.Lists.{precedes, insert_after}
 use Rattle.execution.specs.Content.{Content, label_of, same_location}
 use Rattle.execution.specs.Sound.{Sound, Within}
 use Rattle.execution.specs.Entries.{denial, entered, place}

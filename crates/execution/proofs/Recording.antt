@@ -1,5 +1,5 @@
 -- A recorded event: the graph stays sound, and only grows.
-use Rattle.std.proofs.Common.{◌≡◌, ℕ, zero, suc, ◌+◌, ◌<◌, ◌≤◌, Bool, true, false, not, ◌&&◌, ◌||◌, T, ltb, ◌⊎◌, List, [], ◌∷◌, ◌++◌, length, get_or, Some, None, Option, sym, refl, ap, ◌∙◌, subst, ap₂, inl, inr, arith, ltb→lt, length-append}
+use Rattle.std.proofs.Common.{◌≡◌, ℕ, zero, suc, ◌+◌, ◌<◌, ◌≤◌, not, ◌||◌, T, ltb, List, [], ◌∷◌, ◌++◌, length, get_or, Some, None, Option, sym, refl, ap, ◌∙◌, subst, ap₂, inl, inr, arith, ltb→lt, length-append}
 use lib.ListN.{get_or-append}
 use lib.Seq.{get_or-append_seam}
 use Rattle.std.proofs.lemmas.Bool.{cases_lt}
@@ -9,8 +9,8 @@ use Rattle.event.specs.declared.event.Arguments.{Arguments}
 use Rattle.event.specs.declared.event.Label.{Label}
 use Rattle.event.specs.declared.event.Event.{Event}
 use Rattle.event.specs.Labels.{no_event, agree, is_read, is_write, location, value_read, value_written, kind_of, mode_of, mode_number, numbered_mode, allows, accesses, labelled, one_location}
-use Rattle.execution.specs.Lists.{holds, precedes}
-use Rattle.execution.specs.Content.{Content, thread_of, label_of, same_location, rf, mo}
+use Rattle.execution.specs.Lists.{precedes}
+use Rattle.execution.specs.Content.{Content, label_of, same_location, rf}
 use Rattle.execution.specs.Sound.{Sound, Within, Recorded, Linked}
 use Rattle.execution.specs.Entries.{denial, entered, record_event}
 use Rattle.execution.proofs.Tests.{both, left, right}

@@ -1,9 +1,9 @@
 -- Every step keeps a graph sound and only adds to it.
-use Rattle.std.proofs.Common.{◌≡◌, ℕ, cond, is_some, Some, None, Option, sym, refl, subst, arith}
+use Rattle.std.proofs.Common.{◌≡◌, cond, is_some, Some, None, Option, refl, arith}
 use Rattle.event.specs.declared.denial.Denial.{Denial}
 use Rattle.execution.specs.Content.{Content}
 use Rattle.execution.specs.Sound.{Sound, Within}
-use Rattle.execution.specs.Entries.{Entry, record_event, link, place, denial, entered, step, StepsKeepAndGrow}
+use Rattle.execution.specs.Entries.{Entry, record_event, link, place, denial, entered, StepsKeepAndGrow}
 use Rattle.execution.proofs.Recording.{record_sound, record_within}
 use Rattle.execution.proofs.Linking.{link_sound, link_within}
 use Rattle.execution.proofs.Placing.{place_sound, place_within}

@@ -1,5 +1,5 @@
 -- An execution graph, as what its entries have made of it, and its four relations.
-use Rattle.std.specs.Prelude.{ℕ, ◌<◌, ◌≤◌, Bool, true, false, not, ◌&&◌, ◌||◌, T, List, map, length, get_or, replicate, Some, None, Option, ◌==◌, nat_lt, slice_index_or}
+use Rattle.std.specs.Prelude.{ℕ, ◌<◌, ◌≤◌, Bool, false, not, ◌&&◌, ◌||◌, T, List, map, length, get_or, replicate, Some, None, Option, ◌==◌, nat_lt, slice_index_or}
 use Rattle.event.specs.declared.event.Label.{Label}
 use Rattle.event.specs.declared.event.Event.{Event}
 use Rattle.event.specs.Labels.{is_write, agree, one_location, initial_write, no_event}

@@ -1,8 +1,7 @@
 -- The entries: when each is denied, and what it makes of a graph.
-use Rattle.std.specs.Prelude.{ℕ, Bool, cond, not, ◌&&◌, ◌||◌, List, [], ◌∷◌, ◌++◌, length, is_some, Some, None, Option, nat_le, nat_lt, slice_set}
+use Rattle.std.specs.Prelude.{ℕ, Bool, cond, not, ◌&&◌, ◌||◌, [], ◌∷◌, ◌++◌, length, is_some, Some, None, Option, nat_le, nat_lt, slice_set}
 use Rattle.event.specs.declared.event.Kind.{Kind}
 use Rattle.event.specs.declared.event.Arguments.{Arguments}
-use Rattle.event.specs.declared.event.Event.{Event}
 use Rattle.event.specs.declared.denial.Denial.{Denial}
 use Rattle.event.specs.declared.denial.Denial.TheVariants.{Range, Mode, Full, Kind as Other-kind, Site, Value, Twice, Loose}
 use Rattle.event.specs.Labels.{allows, accesses, labelled, agree, is_read, is_write, value_read, value_written}

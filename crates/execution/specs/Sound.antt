@@ -1,7 +1,5 @@
 -- What every graph keeps, and when one graph is within another.
 use Rattle.std.specs.Prelude.{◌≡◌, ℕ, ◌<◌, ◌≤◌, T, length, Some, ◌≢◌, slice_index_or}
-use Rattle.event.specs.declared.event.Label.{Label}
-use Rattle.event.specs.declared.event.Event.{Event}
 use Rattle.event.specs.Labels.{no_event, initial_write, agree, is_read, is_write, location, value_read, value_written, kind_of, mode_of, mode_number, allows}
 use Rattle.execution.specs.Lists.{holds, precedes, distinct}
 use Rattle.execution.specs.Content.{Content, thread_of, label_of, same_location, rf, mo}

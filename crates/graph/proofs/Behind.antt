@@ -1,5 +1,5 @@
 -- One more number directly behind another, by its index.
-use Rattle.std.proofs.Common.{◌≡◌, ℕ, zero, suc, ◌+◌, ◌<◌, ◌≤◌, true, false, List, [], ◌∷◌, length, get_or, take, is_some, IfOk, Some, None, Option, sym, refl, ap, ◌∙◌, add-one, arith, length-take-le, get_or-take, MatchOption}
+use Rattle.std.proofs.Common.{◌≡◌, ℕ, zero, suc, ◌+◌, ◌<◌, ◌≤◌, true, false, List, [], ◌∷◌, length, get_or, take, is_some, IfOk, Some, None, Option, sym, refl, ap, ◌∙◌, arith, length-take-le, get_or-take, MatchOption}
 use Rattle.std.specs.List.{insert}
 use Rattle.std.specs.Option.{ok_or}
 use Rattle.std.proofs.lemmas.List.Edits.{length-insert, get_or-insert_below, get_or-insert_at, get_or-insert_above}

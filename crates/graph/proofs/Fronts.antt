@@ -1,5 +1,5 @@
 -- The front of a table: what stands there, and what a write makes of it.
-use Rattle.std.proofs.Common.{◌≡◌, ℕ, zero, suc, ◌+◌, ◌<◌, ◌≤◌, Bool, true, false, cond, not, ltb, ◌⊎◌, List, [], ◌∷◌, ◌++◌, length, get_or, take, set, Some, None, Option, sym, refl, ap, ◌∙◌, ap₂, inl, inr, add-one, arith, ltb→lt, length-set, length-take-le, get_or-take, take-suc, get_or-set_same}
+use Rattle.std.proofs.Common.{◌≡◌, ℕ, zero, suc, ◌+◌, ◌<◌, ◌≤◌, Bool, true, false, cond, not, ltb, List, [], ◌∷◌, ◌++◌, length, get_or, take, set, Some, None, sym, refl, ap, ◌∙◌, ap₂, inl, inr, add-one, arith, ltb→lt, length-set, length-take-le, get_or-take, take-suc, get_or-set_same}
 use lib.ListN.{get_or-eq_default}
 use lib.Seq.{take-set-le}
 use Rattle.event.specs.declared.event.Event.{Event}

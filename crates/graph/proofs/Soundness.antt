@@ -1,5 +1,4 @@
 -- Soundness has one proof at most, so that a graph's own fact can be taken out of its type.
-use Rattle.std.proofs.Common.{◌≡◌, ℕ, ◌≤◌}
 use mathlib.Core.Logic.{∥∥₁_elim}
 use mathlib.Core.HLevel.{Π_prop}
 use native.Mathlib.Nat.{ℕ_set}
@@ -7,11 +6,9 @@ use native.Mathlib.Bridge.{le_prop}
 use lib.Dec.{T_prop}
 use base.Stored.{Coded-set}
 use Rattle.event.specs.contracts.event.Event.{the_row}
-use Rattle.event.specs.declared.event.Label.{Label}
-use Rattle.event.specs.declared.event.Event.{Event}
 use Rattle.graph.specs.declared.tables.Graph.{Graph}
 use Rattle.execution.specs.Content.{Content}
-use Rattle.execution.specs.Sound.{Sound, Recorded, Linked, Sound-prop, recorded-prop, linked-prop}
+use Rattle.execution.specs.Sound.{Sound, Sound-prop, recorded-prop, linked-prop}
 use Rattle.graph.specs.View.{view}
 
 sound_is_prop : (g : Content) → IsProp (Sound g)

@@ -1,5 +1,5 @@
 -- What each entry's writes to the tables make of a graph's content.
-use Rattle.std.proofs.Common.{◌≡◌, ℕ, ◌+◌, ◌<◌, ◌≤◌, Bool, true, not, ◌||◌, T, eqb, ltb, ◌⊎◌, List, [], ◌∷◌, ◌++◌, map, length, get_or, take, set, replicate, Some, None, Option, sym, refl, ap, ◌∙◌, subst, ap₂, inl, inr, add-one, arith, eqb→eq, ltb→lt, length-take-le}
+use Rattle.std.proofs.Common.{◌≡◌, ℕ, ◌+◌, ◌<◌, ◌≤◌, Bool, true, not, ◌||◌, T, eqb, ltb, List, [], ◌∷◌, ◌++◌, map, length, get_or, take, set, replicate, Some, None, Option, sym, ap, ◌∙◌, subst, ap₂, inl, inr, add-one, arith, eqb→eq, ltb→lt, length-take-le}
 use mathlib.Core.Logic.{∥∥₁_map}
 use lib.ListN.{length-replicate}
 use Rattle.std.specs.List.{insert}
@@ -21,7 +21,7 @@ use Rattle.execution.proofs.Lists.{upto_length, upto_at, few_distinct}
 use Rattle.execution.proofs.Among.{placed_among}
 use Rattle.graph.proofs.Behind.{behind_is_after}
 use Rattle.graph.proofs.Fronts.{front_of, front_push}
-use Rattle.execution.proofs.Opening.{none_at, opening_count, opening_at, opening_sound}
+use Rattle.execution.proofs.Opening.{none_at, opening_count, opening_at}
 use Rattle.graph.proofs.Soundness.{sound_of}
 use Rattle.execution.proofs.Denied.{Records, records, Links, links, Places, places}
 use Rattle.execution.proofs.Steps.{entered_keeps}

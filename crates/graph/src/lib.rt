@@ -1,4 +1,5 @@
 //! Execution graphs: the entries that build one, and its tables with what every graph keeps.
+#![tactic(auto)]
 
 pub mod closed;
 pub mod open;

@@ -1,4 +1,5 @@
 //! Execution graphs whose verdicts are known, and a proof that the definitions of judging give each of them its verdict.
+#![tactic(auto)]
 
 ghost use Rattle.std.specs.Prelude.{◌≡◌, length};
 ghost use Rattle.known.specs.Cases.{cases, KnownVerdicts};

@@ -1,4 +1,5 @@
 //! Right-justified decimal numbers in fixed-width fields of bytes, read and written.
+#![tactic(auto)]
 
 mod reading;
 mod writing;

@@ -1,4 +1,6 @@
 //! The race search on a closed graph.
+#![tactic(auto)]
+
 pub mod race;
 pub mod search;
 

@@ -1,5 +1,5 @@
 -- Which lines may stand where.
-use Rattle.std.proofs.Common.{◌≡◌, ℕ, ◌<◌, ◌≤◌, Bool, true, false, not, ◌&&◌, leb, List, Some, None, Ok, Err, Result, sym, refl, ap, ◌∙◌, MatchResult}
+use Rattle.std.proofs.Common.{◌≡◌, ℕ, ◌<◌, ◌≤◌, Bool, true, false, leb, List, Some, None, Ok, Err, Result, sym, refl, ap, ◌∙◌, MatchResult}
 use Rattle.std.proofs.lemmas.Bool.{le-leb, lt-leb, and_right, false≢true}
 use Rattle.event.specs.declared.denial.Denial.{Denial}
 use Rattle.execution.specs.Content.{Content, opening}
@@ -9,8 +9,7 @@ use Rattle.recording.specs.declared.layout.LineKind.TheVariants.{Header, Event, 
 use Rattle.recording.specs.declared.line.Fields.{Fields}
 use Rattle.recording.specs.Layout.{kind, rest, field_denial, numbers}
 use Rattle.recording.specs.Headings.{Heading, heading, heading_denial, heading_of}
-use Rattle.recording.specs.Meaning.{Stage, unopened, taking, ended, due, in_frame, is_header, own_denial, line_denial, line_step}
-use Rattle.recording.specs.Answers.{opened}
+use Rattle.recording.specs.Meaning.{Stage, unopened, taking, due, in_frame, is_header, own_denial}
 use Rattle.recording.specs.OneLine.{Heads, Enters, Applies, stage}
 use Rattle.recording.proofs.Steps.{own_line, advances}
 

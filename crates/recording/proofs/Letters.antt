@@ -1,8 +1,7 @@
 -- When a line has a kind.
-use Rattle.std.proofs.Common.{◌≡◌, ℕ, suc, ◌+◌, ◌-◌, ◌<◌, ◌≤◌, Bool, true, false, cond, ◌&&◌, eqb, List, [], ◌∷◌, length, get_or, take, drop, Some, None, Option, sym, refl, ap, ◌∙◌, arith}
+use Rattle.std.proofs.Common.{◌≡◌, ℕ, ◌+◌, ◌-◌, true, false, cond, ◌&&◌, eqb, List, length, get_or, take, drop, None, refl, ap, ◌∙◌}
 use Rattle.std.proofs.lemmas.List.{take_rest, get_or-drop, length-drop}
 use Rattle.std.proofs.lemmas.Bool.{eq-eqb, ne_eqb}
-use Rattle.recording.specs.declared.layout.LineKind.{LineKind}
 use Rattle.recording.specs.Layout.{kind, lettered}
 
 pub kind_none_by_length : (line : List ℕ) → (length line ≡ 34 → ⊥) → kind line ≡ None

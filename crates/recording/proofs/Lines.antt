@@ -1,5 +1,5 @@
 -- The first line of some bytes, and what comes after it.
-use Rattle.std.proofs.Common.{◌≡◌, ℕ, zero, suc, ◌+◌, ◌-◌, ◌<◌, ◌≤◌, Bool, true, false, cond, eqb, List, [], ◌∷◌, length, get_or, take, drop, sym, refl, ap, ◌∙◌, arith}
+use Rattle.std.proofs.Common.{◌≡◌, ℕ, zero, suc, ◌+◌, ◌-◌, ◌<◌, ◌≤◌, true, false, cond, eqb, List, [], ◌∷◌, length, get_or, take, drop, sym, refl, ap, ◌∙◌, arith}
 use lib.Seq.{take-nil}
 use Rattle.std.proofs.lemmas.List.{at_drop_more, at_drop_all, take_rest, drop-drop, length-take-le}
 use Rattle.recording.specs.Lines.{lines, onto}

@@ -1,5 +1,5 @@
 -- A reader's next line, and what it makes of a stage.
-use Rattle.std.proofs.Common.{◌≡◌, ℕ, suc, ◌+◌, ◌-◌, ◌≤◌, Bool, true, false, List, [], ◌∷◌, drop, Some, None, Ok, Err, Option, Result, sym, refl, ap, ◌∙◌, subst, add-one, arith}
+use Rattle.std.proofs.Common.{◌≡◌, ℕ, suc, ◌+◌, ◌-◌, ◌≤◌, Bool, true, false, List, [], ◌∷◌, drop, Some, None, Ok, Err, Result, sym, refl, ap, ◌∙◌, subst, add-one, arith}
 use Rattle.std.proofs.lemmas.List.{drop-drop}
 use Rattle.event.specs.declared.denial.Denial.{Denial}
 use Rattle.event.specs.declared.denial.Denial.TheVariants.{Frame}
@@ -11,9 +11,9 @@ use Rattle.recording.specs.declared.reader.Reader.{Reader}
 use Rattle.recording.specs.Lines.{lines}
 use Rattle.recording.specs.Faults.{fault, on_line}
 use Rattle.recording.specs.Headings.{Heading, heading_of}
-use Rattle.recording.specs.Meaning.{Stage, unopened, line_denial, line_step, Outcome, stopped, unfinished, run, meaning, taking}
+use Rattle.recording.specs.Meaning.{Stage, unopened, line_denial, line_step, Outcome, stopped, unfinished, meaning, taking}
 use Rattle.recording.specs.Left.{left, ahead}
-use Rattle.recording.specs.Answers.{Fills, Holds, Takes, opened, whole}
+use Rattle.recording.specs.Answers.{Fills, Takes, opened, whole}
 use Rattle.recording.specs.OneLine.{Heads, Enters, stage}
 use Rattle.recording.proofs.Steps.{run_stops, run_steps, run_ends}
 

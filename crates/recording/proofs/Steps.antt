@@ -1,12 +1,12 @@
 -- One line: which rule denies it, and what it makes of a stage.
-use Rattle.std.proofs.Common.{◌≡◌, ℕ, suc, Bool, true, false, List, [], ◌∷◌, Some, None, Option, sym, refl, ap, ◌∙◌}
+use Rattle.std.proofs.Common.{◌≡◌, ℕ, suc, true, false, List, [], ◌∷◌, Some, None, sym, refl, ap, ◌∙◌}
 use Rattle.event.specs.declared.denial.Denial.{Denial}
 use Rattle.event.specs.declared.denial.Denial.TheVariants.{Line, Frame}
 use Rattle.recording.specs.declared.layout.LineKind.{LineKind}
 use Rattle.recording.specs.declared.line.Fields.{Fields}
 use Rattle.recording.specs.Layout.{kind, rest, field_denial, numbers}
 use Rattle.recording.specs.Faults.{fault}
-use Rattle.recording.specs.Meaning.{Stage, in_frame, own_denial, line_denial, line_step, advanced, Outcome, stopped, unfinished, run}
+use Rattle.recording.specs.Meaning.{Stage, in_frame, own_denial, line_denial, line_step, advanced, stopped, unfinished, run}
 
 module _ (n : ℕ) (s : Stage) (line : List ℕ) where
   pub unknown_line : kind line ≡ None → line_denial n s line ≡ Some Line

@@ -1,5 +1,5 @@
 -- How far into a file its meaning reaches: 1,025 lines, of 34 bytes each.
-use Rattle.std.proofs.Common.{◌≡◌, ℕ, zero, suc, ◌+◌, ◌-◌, ◌*◌, ◌<◌, ◌≤◌, Bool, true, false, leb, ◌⊎◌, List, [], ◌∷◌, length, get_or, take, drop, Some, None, Option, sym, refl, ap, ◌∙◌, inl, inr, arith, take_all}
+use Rattle.std.proofs.Common.{◌≡◌, ℕ, zero, suc, ◌+◌, ◌-◌, ◌*◌, ◌<◌, ◌≤◌, Bool, true, false, leb, List, [], ◌∷◌, length, take, Some, None, Option, sym, refl, ap, ◌∙◌, inl, inr, arith, take_all}
 use lib.Seq.{take-nil}
 use Rattle.std.proofs.lemmas.List.{length-take, length-take-le, get_or-take}
 use Rattle.std.proofs.lemmas.Bool.{leb-true, and_parts, cases_eq, cases_lt}
@@ -11,10 +11,10 @@ use Rattle.recording.specs.declared.layout.LineKind.{LineKind}
 use Rattle.recording.specs.Lines.{lines}
 use Rattle.recording.specs.Layout.{kind}
 use Rattle.recording.specs.Faults.{fault}
-use Rattle.recording.specs.Meaning.{Stage, unopened, taking, ended, due, in_frame, kind_denial, line_denial, line_step, Outcome, stopped, unless_denied, run, meaning}
+use Rattle.recording.specs.Meaning.{Stage, unopened, taking, ended, due, in_frame, kind_denial, line_denial, line_step, Outcome, unless_denied, run, meaning}
 use Rattle.recording.proofs.Lines.{first, after, lines_by_first, no_newline_inside, first_of_take, after_of_take}
 use Rattle.recording.proofs.Letters.{kind_none_by_length, kind_none_by_end}
-use Rattle.recording.proofs.Steps.{unknown_line, run_stops, run_steps, run_ends}
+use Rattle.recording.proofs.Steps.{unknown_line, run_stops}
 
 in_frame_low : (n : ℕ) (s : Stage) (k : LineKind) → in_frame n s k ≡ true → n ≤ 1024
 in_frame_low n s k e = leb-true n 1024 (and_parts (due s k) (leb n 1024) e).1

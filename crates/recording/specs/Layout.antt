@@ -1,7 +1,6 @@
 -- What a line is: its letter, its five fields, and which of them it fills.
 use Rattle.std.specs.Prelude.{ℕ, ◌+◌, ◌-◌, Bool, true, false, cond, not, ◌&&◌, ◌||◌, List, [], ◌∷◌, length, take, drop, is_some, Some, None, Option, ◌==◌, slice_index, slice_index_or}
 use Rattle.std.specs.Option.{unwrap_or}
-use Rattle.event.specs.declared.event.Kind.{Kind}
 use Rattle.event.specs.declared.event.Kind.TheVariants.{Read, Write, Update, Fence}
 use Rattle.event.specs.declared.denial.Denial.{Denial}
 use Rattle.event.specs.declared.denial.Denial.TheVariants.{Blank, Number}

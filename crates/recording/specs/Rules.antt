@@ -1,5 +1,5 @@
 -- Rules that are tried in turn: the first that is broken denies.
-use Rattle.std.specs.Prelude.{ℕ, Bool, Some, None, Option}
+use Rattle.std.specs.Prelude.{ℕ, Bool, None, Option}
 use Rattle.event.specs.declared.denial.Denial.{Denial}
 use Rattle.event.specs.Denials.{unless}
 

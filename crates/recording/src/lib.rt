@@ -1,4 +1,5 @@
 //! Recordings: the lines of a file, what each says, and the graph that they make.
+#![tactic(auto)]
 
 pub mod fault;
 pub mod header;

@@ -1,5 +1,7 @@
 //! Times closing, the test for cycles, listing and the cycle search on relations of up to 256 events.
 //! Standard output has what the calls answer, standard error how long they take. The argument is the number of rounds.
+#![tactic(auto)]
+
 mod shapes;
 
 use relation::Relation;

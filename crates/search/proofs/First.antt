@@ -1,5 +1,5 @@
 -- Placing the lowest open write in every way, from the first place on, finds the filling to show.
-use Rattle.std.proofs.Common.{◌≡◌, ℕ, ◌<◌, ◌≤◌, Bool, not, ◌&&◌, ◌||◌, T, eqb, ltb, leb, ◌⊎◌, List, length, get_or, None, sym, refl, ◌∙◌, subst, inl, inr, arith, eqb→eq, ltb→lt, lt→ltb, leb→le}
+use Rattle.std.proofs.Common.{◌≡◌, ℕ, ◌<◌, ◌≤◌, Bool, ◌&&◌, ◌||◌, T, eqb, ltb, leb, List, length, get_or, None, sym, ◌∙◌, subst, inl, inr, arith, eqb→eq, ltb→lt, lt→ltb, leb→le}
 use lib.Dec.{eqb_refl}
 use Rattle.std.proofs.lemmas.Bool.{cases_eq}
 use Rattle.event.specs.declared.event.Event.{Event}
@@ -9,14 +9,14 @@ use Rattle.execution.specs.Content.{Content, label_of, same_location, is_open, m
 use Rattle.execution.specs.Sound.{Sound}
 use Rattle.execution.specs.Entries.{denial, entered, place}
 use Rattle.execution.proofs.Tests.{both, left, right, either, no, yes_no, same}
-use Rattle.execution.proofs.Lists.{precedes_first, precedes_second, holds_insert, insert_holds, insert_after_it, insert_after_all}
+use Rattle.execution.proofs.Lists.{precedes_first, holds_insert, insert_holds, insert_after_it, insert_after_all}
 use Rattle.execution.proofs.Among.{placed_among}
 use Rattle.execution.proofs.Denied.{places}
 use Rattle.execution.proofs.Placing.{place_within}
 use Rattle.model.specs.Meaning.{Meaning, Serves}
 use Rattle.verdict.specs.Numbers.{count}
 use Rattle.verdict.specs.Places.{there_before, place_of}
-use Rattle.verdict.specs.Fillings.{due, Filling, Fillable, FilledFirst}
+use Rattle.verdict.specs.Fillings.{Filling, Fillable, FilledFirst}
 use Rattle.verdict.proofs.Lists.{or_left, or_right, test, precedes_one_way, precedes_some_way, precedes_trans, never_before_itself}
 use Rattle.verdict.proofs.Counting.{count_less, count_same}
 use Rattle.verdict.proofs.Reading.{one_location_swap}

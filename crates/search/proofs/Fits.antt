@@ -1,5 +1,5 @@
 -- A placement that fits: when it is not denied, and who is due with it.
-use Rattle.std.proofs.Common.{◌≡◌, ℕ, ◌≤◌, Bool, true, false, not, T, leb, ◌⊎◌, length, Some, None, Option, refl, inl, inr, arith, le→leb, lt→ltb}
+use Rattle.std.proofs.Common.{◌≡◌, ℕ, ◌≤◌, Bool, true, false, not, T, leb, length, None, Option, refl, inl, inr, arith, le→leb, lt→ltb}
 use Rattle.event.specs.declared.denial.Denial.{Denial}
 use Rattle.event.specs.Labels.{is_write}
 use Rattle.execution.specs.Lists.{holds, insert_after}

@@ -1,6 +1,5 @@
 -- What stands in a list, by its index.
-use Rattle.std.proofs.Common.{◌≡◌, ℕ, zero, suc, ◌<◌, Bool, not, ◌&&◌, ◌||◌, T, eqb, ◌⊎◌, List, [], ◌∷◌, length, get_or, refl, inl, inr, arith, eqb→eq}
-use lib.Dec.{eqb_refl}
+use Rattle.std.proofs.Common.{◌≡◌, ℕ, zero, suc, ◌<◌, not, ◌&&◌, T, eqb, List, [], ◌∷◌, length, get_or, inl, inr, arith, eqb→eq}
 use Rattle.execution.specs.Lists.{holds, precedes, distinct}
 use Rattle.execution.proofs.Tests.{left, right, either, yes_no}
 use Rattle.execution.proofs.Lists.{precedes_second}

@@ -1,8 +1,8 @@
 -- A table that holds just the pairs of a relation has its cycles.
-use Rattle.std.proofs.Common.{◌≡◌, ℕ, Bool, T, List, sym, subst}
+use Rattle.std.proofs.Common.{ℕ, Bool, T, sym, subst}
 use Rattle.relation.specs.declared.table.Relation.{Relation}
 use Rattle.relation.specs.Table.{holds, Is}
-use Rattle.cycles.specs.Cycles.{Cycle, Cyclic, Acyclic}
+use Rattle.cycles.specs.Cycles.{Cyclic, Acyclic}
 use Rattle.cycles.proofs.Walks.{larger_keeps_cycles}
 
 module _ (t : Relation) (r : ℕ → ℕ → Bool) (laid : Is t r) where

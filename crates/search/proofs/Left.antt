@@ -1,5 +1,5 @@
 -- How many open writes are left from a number on: fewer with every one that is placed or left out.
-use Rattle.std.proofs.Common.{◌≡◌, ℕ, suc, ◌+◌, ◌<◌, ◌≤◌, Bool, ◌&&◌, T, leb, length, None, arith, le→leb, leb→le}
+use Rattle.std.proofs.Common.{◌≡◌, ℕ, ◌+◌, ◌<◌, ◌≤◌, ◌&&◌, T, leb, length, None, arith, le→leb, leb→le}
 use Rattle.event.specs.Labels.{is_write}
 use Rattle.execution.specs.Content.{Content, label_of, is_open}
 use Rattle.execution.specs.Sound.{Sound}

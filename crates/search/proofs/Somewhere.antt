@@ -1,5 +1,5 @@
 -- Every filling has an open write directly after some placed write of its location.
-use Rattle.std.proofs.Common.{◌≡◌, ℕ, ◌<◌, ◌≤◌, Bool, not, ◌&&◌, T, leb, ◌⊎◌, List, length, get_or, Some, None, sym, refl, subst, inl, inr, arith, le→leb}
+use Rattle.std.proofs.Common.{◌≡◌, ℕ, ◌<◌, ◌≤◌, Bool, ◌&&◌, T, List, get_or, Some, None, sym, refl, subst, inl, inr, arith, le→leb}
 use lib.Dec.{eqb_refl}
 use Rattle.std.proofs.lemmas.Bool.{cases_lt}
 use Rattle.event.specs.declared.event.Label.{Label}
@@ -13,7 +13,7 @@ use Rattle.execution.specs.Entries.{denial, entered, place}
 use Rattle.execution.proofs.Tests.{both, left, right, yes_no}
 use Rattle.execution.proofs.Lists.{precedes_second}
 use Rattle.execution.proofs.Among.{write_among}
-use Rattle.verdict.specs.Fillings.{due, Filling}
+use Rattle.verdict.specs.Fillings.{Filling}
 use Rattle.verdict.proofs.Lists.{or_right, precedes_one_way, precedes_some_way, precedes_trans, never_before_itself}
 use Rattle.verdict.proofs.Reading.{one_location_same, one_location_swap}
 use Rattle.verdict.proofs.Inserting.{insert_precedes, some_before, before_some, Last, find_last}

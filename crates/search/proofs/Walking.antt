@@ -1,5 +1,5 @@
 -- The placed writes walked in order, each tried as the one that the lowest open write comes after.
-use Rattle.std.proofs.Common.{◌≡◌, ℕ, ◌+◌, ◌<◌, ◌≤◌, Bool, false, T, ◌⊎◌, length, get_or, is_some, Some, None, MatchBool, Option, sym, subst, inl, inr, arith, below_more}
+use Rattle.std.proofs.Common.{◌≡◌, ℕ, ◌+◌, ◌<◌, ◌≤◌, Bool, false, T, length, get_or, is_some, Some, None, MatchBool, Option, sym, subst, inl, inr, arith, below_more}
 use Rattle.std.proofs.lemmas.Bool.{cases_lt}
 use Rattle.graph.specs.declared.tables.Graph.{Graph}
 use Rattle.execution.specs.Lists.{precedes}

@@ -1,4 +1,6 @@
 //! The search for the full modification order to show.
+#![tactic(auto)]
+
 mod cyclic;
 mod filling;
 

@@ -1,11 +1,18 @@
--- The three orders join events and grow, and the first is coherence.
+-- The three orders keep the rules of a model: they join events and grow, and the first is coherence.
 use Rattle.std.specs.Prelude.{ℕ, ◌&&◌, ◌||◌, T, ◌==◌}
+use Rattle.std.proofs.Common.{rules, lit≤}
 use Rattle.execution.specs.Content.{Content, same_location, po, rf, mo, rb}
 use Rattle.execution.proofs.Tests.{both}
-use Rattle.model.specs.Meaning.{Floor}
+use Rattle.model.specs.Meaning.{Few, Beyond, Floor}
 use Rattle.model.specs.Either.{or_left, or_right}
 use Rattle.model.specs.Growing.{Grows, join, guard, near, po_grows, rf_grows, mo_grows, rb_grows}
 use Rattle.threefold.specs.Threefold.{coherence, threefold}
+
+pub few : Few threefold
+few = (lit≤ tt, lit≤ tt)
+
+pub beyond : Beyond threefold
+beyond = search rules
 
 coherence_grows : Grows coherence
 coherence_grows =

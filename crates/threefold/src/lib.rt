@@ -1,4 +1,6 @@
 //! A model from outside, to show that the interface is open: three orders, with and without layers over it.
+#![tactic(auto)]
+
 pub mod happens_before;
 #[cfg(test)]
 mod tests;
@@ -9,7 +11,6 @@ ghost use Rattle.relation.specs.Table.{holds, Is};
 ghost use Rattle.threefold.specs.Threefold.{coherence, threefold};
 ghost use Rattle.threefold.specs.Kept.{order_grows};
 ghost use Rattle.threefold.specs.Kept;
-ghost use Rattle.std.proofs.Common.{rules};
 
 use graph::Graph;
 use model::Model as MemoryModel;
@@ -26,11 +27,11 @@ pub struct Threefold {}
 impl MemoryModel for Threefold {
     ghost meaning = { λ _. threefold };
 
-    ghost few = { Prim.search rules };
+    ghost few = { λ m. Kept.few };
 
     ghost inside = { λ m g s k. (order_grows k).inside g s };
 
-    ghost beyond = { Prim.search rules };
+    ghost beyond = { λ m. Kept.beyond };
 
     ghost floor = { λ m. Kept.floor };
 

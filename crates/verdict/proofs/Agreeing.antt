@@ -9,7 +9,6 @@ use Rattle.execution.specs.Sound.{Sound, Within}
 use Rattle.execution.proofs.Tests.{both, left, right, either, no}
 use Rattle.execution.proofs.Lists.{precedes_first, precedes_second}
 use Rattle.execution.proofs.Among.{mo_among}
-use Rattle.verdict.specs.Numbers.{count}
 use Rattle.verdict.specs.Completions.{Completion}
 use Rattle.verdict.specs.Places.{there_before, place_of}
 use Rattle.verdict.proofs.Lists.{or_left, or_right, test, precedes_one_way, precedes_some_way, precedes_trans}

@@ -1,4 +1,5 @@
 //! Judging an execution graph under a memory model.
+#![tactic(auto)]
 
 pub mod laws;
 pub mod links;

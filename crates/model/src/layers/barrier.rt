@@ -7,7 +7,6 @@ ghost use Rattle.relation.specs.Table.{holds, Is};
 ghost use Rattle.model.specs.Meaning.{Over};
 ghost use Rattle.model.specs.Layers.{strong_fence, fenced, barrier, Piles};
 ghost use Rattle.model.specs.Layered.{layer_inside, fenced_grows, layer_beyond, layer_floor, layer_growth};
-ghost use Rattle.std.proofs.Common.{rules};
 
 use crate::interface::Model as MemoryModel;
 use crate::laying::program_order::add_program_order;
@@ -35,7 +34,7 @@ impl<M: MemoryModel> Barrier<M> {
 impl<M: MemoryModel> MemoryModel for Barrier<M> {
     ghost meaning = { λ m. barrier (M.Model.meaning m.below) };
 
-    ghost few = { Prim.search rules };
+    ghost few = { λ m. M.Model.few m.below };
 
     ghost inside = { λ m. layer_inside _ _ fenced_grows (M.Model.inside m.below) };
 

@@ -5,7 +5,6 @@ ghost use Rattle.relation.specs.Table.{holds, Is};
 ghost use Rattle.model.specs.Meaning.{Over};
 ghost use Rattle.model.specs.Layers.{has_thread, within_threads, strong, Piles};
 ghost use Rattle.model.specs.Layered.{layer_inside, within_threads_grows, layer_beyond, layer_floor, layer_growth};
-ghost use Rattle.std.proofs.Common.{rules};
 
 use crate::interface::Model as MemoryModel;
 use crate::laying::program_order::add_thread_order;
@@ -33,7 +32,7 @@ impl<M: MemoryModel> Strong<M> {
 impl<M: MemoryModel> MemoryModel for Strong<M> {
     ghost meaning = { λ m. strong m.threads (M.Model.meaning m.below) };
 
-    ghost few = { Prim.search rules };
+    ghost few = { λ m. M.Model.few m.below };
 
     ghost inside = { λ m. layer_inside _ _ (within_threads_grows m.threads) (M.Model.inside m.below) };
 

@@ -1,4 +1,4 @@
-use Rattle.std.proofs.Common.{◌≡◌, ℕ, ◌<◌, List, length, get_or, ap, arith}
+use Rattle.std.proofs.Common.{ℕ, ◌<◌, List, length, get_or, ap, arith}
 use Rattle.event.specs.Labels.{is_write}
 use Rattle.execution.specs.Content.{label_of}
 use Rattle.graph.specs.View.{view}

@@ -1,4 +1,4 @@
-use Rattle.std.proofs.Common.{◌≡◌, ℕ, T, length, is_some, None, Option, sym, ap, ◌∙◌, arith, below_more}
+use Rattle.std.proofs.Common.{ℕ, T, length, is_some, None, sym, ap, ◌∙◌, arith, below_more}
 use Rattle.event.specs.declared.event.Event.{Event}
 use Rattle.event.specs.Labels.{no_event, is_read}
 use Rattle.execution.specs.Content.{label_of, source_of}

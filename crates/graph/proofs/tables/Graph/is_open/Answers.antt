@@ -1,4 +1,4 @@
-use Rattle.std.proofs.Common.{◌≡◌, ℕ, List, is_some, sym, ap, ◌∙◌}
+use Rattle.std.proofs.Common.{ℕ, List, is_some, sym, ap, ◌∙◌}
 use Rattle.execution.specs.Lists.{holds}
 use Rattle.graph.specs.View.{view}
 use Rattle.graph.proofs.Behind.{place_tells}

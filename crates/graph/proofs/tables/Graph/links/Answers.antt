@@ -1,4 +1,4 @@
-use Rattle.std.proofs.Common.{◌≡◌, ℕ, List, take, is_some, None, count_by, Option, sym, ap, ◌∙◌, arith, take_all}
+use Rattle.std.proofs.Common.{is_some, None, count_by, sym, ap, ◌∙◌, arith, take_all}
 use Rattle.std.proofs.lemmas.List.Sums.{count_by_more_yes, count_by_more_no}
 use Rattle.graph.proofs.tables.Graph.links.Goals as goal
 use Rattle.graph.proofs.tables.Graph.links.Goals.{then-is_some, else-is_some}

@@ -1,4 +1,4 @@
-use Rattle.std.proofs.Common.{◌≡◌, ◌<◌, ◌≢◌, length, sym, refl, ◌∙◌, subst, ap₂, arith, length-set, get_or-set_other, get_or-set_same, below_more}
+use Rattle.std.proofs.Common.{◌<◌, ◌≢◌, length, sym, refl, ◌∙◌, subst, ap₂, arith, length-set, get_or-set_other, get_or-set_same, below_more}
 use Rattle.event.specs.Labels.{no_event}
 use Rattle.execution.specs.Content.{opening}
 use Rattle.execution.specs.Sound.{Sound}
@@ -22,8 +22,8 @@ invariant_of-result c = record {
   few = (omega arith, omega arith);
   sound =
       ∣ subst Sound
-          (opening_stored c.threads.result c.locations-locations.result c.loop-l.events c.loop-l.placed (omega arith) c.loop-l.invariant.0 c.loop-l.invariant.1 (λ k h. c.loop-l.invariant.2 k (omega arith)) (λ k h. c.loop-l.invariant.3 k (omega arith)))
-          (opening_sound c.threads.result c.locations-locations.result (omega arith) (omega arith) (omega arith) (omega arith)) ∣₁;
+      (opening_stored c.threads.result c.locations-locations.result c.loop-l.events c.loop-l.placed (omega arith) c.loop-l.invariant.0 c.loop-l.invariant.1 (λ k h. c.loop-l.invariant.2 k (omega arith)) (λ k h. c.loop-l.invariant.3 k (omega arith)))
+      (opening_sound c.threads.result c.locations-locations.result (omega arith) (omega arith) (omega arith) (omega arith)) ∣₁;
 }
 
 pub returns : goal.returns

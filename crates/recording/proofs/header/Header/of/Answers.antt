@@ -1,4 +1,4 @@
-use Rattle.std.proofs.Common.{◌^◌, ◌<◌, ◌≤◌, sym, refl, ap, ◌∙◌, arith}
+use Rattle.std.proofs.Common.{◌∙◌, arith}
 use Rattle.std.proofs.lemmas.Result.{err_from_is_err_and}
 use Rattle.recording.specs.Headings.{heading}
 use Rattle.recording.proofs.Heads.{set_bound, bad_size, bad_strong, bad_barrier, bad_model, good_heading, flag}

@@ -1,4 +1,4 @@
-use Rattle.std.proofs.Common.{◌≡◌, ℕ, ◌<◌, length, get_or, sym, refl, ◌∙◌, arith, rules}
+use Rattle.std.proofs.Common.{◌≡◌, ◌<◌, length, get_or, sym, refl, ◌∙◌, arith, rules}
 use Rattle.recording.proofs.Letters.{kind_none_by_length, kind_none_by_end, kind_by_letter, part_is_rest, rest_length, rest_at}
 use Rattle.recording.proofs.line.Line.of.Goals as goal
 use Rattle.recording.proofs.line.Line.of.Goals.{then-rest-ne33-via-then-rest-ne33, then-rest-ne33-via-else-rest-ne33+then-rest-ne10}

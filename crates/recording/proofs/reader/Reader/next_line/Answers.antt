@@ -1,4 +1,4 @@
-use Rattle.std.proofs.Common.{refl, ap, arith}
+use Rattle.std.proofs.Common.{refl, ap}
 use Rattle.std.proofs.lemmas.List.{drop_all}
 use Rattle.recording.specs.Lines.{lines}
 use Rattle.recording.proofs.Lines.{next_line}

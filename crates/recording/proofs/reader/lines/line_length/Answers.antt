@@ -1,6 +1,6 @@
-use Rattle.std.proofs.Common.{◌≡◌, ℕ, ◌+◌, length, arith}
+use Rattle.std.proofs.Common.{◌+◌, length, arith}
 use Rattle.std.proofs.lemmas.Bool.{ne_eqb}
-use Rattle.recording.proofs.Lines.{first, lines_by_length, first_ends, first_goes_on, first_none}
+use Rattle.recording.proofs.Lines.{lines_by_length, first_ends, first_goes_on, first_none}
 use Rattle.recording.proofs.reader.lines.line_length.Goals as goal
 
 pub returns-then-byte-eq10 : goal.returns-then-byte-eq10

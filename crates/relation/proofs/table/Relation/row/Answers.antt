@@ -1,4 +1,4 @@
-use Rattle.std.proofs.Common.{◌≡◌, ℕ, List, sym, ap, subst, arith}
+use Rattle.std.proofs.Common.{◌≡◌, ℕ, List, sym, subst, arith}
 use Rattle.event_set.specs.Sets.{has}
 use Rattle.event_set.proofs.Words.{events}
 use Rattle.relation.specs.Table.{holds}

@@ -16,7 +16,7 @@ TOKEN = re.compile(r"[^\s(){}\[\];,.λ\"⌜⌝|]+")
 ACRONYMS = {"RA": "Ra", "TSO": "Tso", "SC": "Sc", "COH": "Coh"}
 OLD_WORDS = {"valueAfter": "value_after", "getD": "get_or"}
 # where the plain respelling would fall together with a word of the library
-APART = {"bit-and": "bit_of_and", "bit-or": "bit_of_or"}
+APART = {"bit-and": "bit_of_and", "bit-or": "bit_of_or", "Sound-prop": "sound_prop"}
 
 
 def own(module):
@@ -59,6 +59,9 @@ def names_of(proofs, sources):
                 others.add(match.group(1))
             elif re.search("[A-Za-z]", match.group(1)):
                 declared[match.group(1)] = path
+    for path in proofs + sources:
+        for alias in re.findall(r"(?<=[\w'] as )[A-Za-z][\w'-]*", read(path)):
+            declared.setdefault(alias, path)
     return declared, others
 
 

@@ -1,4 +1,5 @@
 //! Reads a recording from standard input and writes what came of it to standard output.
+#![tactic(auto)]
 
 use anyhow::anyhow;
 use event::Denial;

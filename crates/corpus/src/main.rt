@@ -1,5 +1,6 @@
 //! Checks many recordings, each behind a title line that begins with '#'. For each it prints the title, the first line
 //! of the report and a digest of the whole report.
+#![tactic(auto)]
 
 ghost use Rattle.std.specs.Prelude.{◌<◌, ◌≤◌, length};
 

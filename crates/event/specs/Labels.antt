@@ -3,7 +3,7 @@ use Rattle.std.specs.Prelude.{ℕ, Bool, true, false, cond, ◌&&◌, ◌||◌, 
 use Rattle.event.specs.declared.event.Mode.{Mode}
 use Rattle.event.specs.declared.event.Mode.TheVariants.{NonAtomic, Relaxed, Acquire, Release, AcquireRelease, SeqCst}
 use Rattle.event.specs.declared.event.Kind.{Kind}
-use Rattle.event.specs.declared.event.Kind.TheVariants.{Read as a_read, Write as a_write, Update as an-update, Fence as a-fence}
+use Rattle.event.specs.declared.event.Kind.TheVariants.{Read as a_read, Write as a_write, Update as an_update, Fence as a_fence}
 use Rattle.event.specs.declared.event.Label.{Label}
 use Rattle.event.specs.declared.event.Label.TheVariants.{Read, Write, Update, Fence}
 use Rattle.event.specs.declared.event.Event.{Event}
@@ -28,28 +28,28 @@ numbered_mode n =
 abbrev pub allows : Kind → ℕ → Bool
 allows a_read n = nat_le n 2 || n == 5
 allows a_write n = nat_le n 1 || (n == 3 || n == 5)
-allows an-update n = nat_le 1 n && nat_le n 5
-allows a-fence n = nat_le 2 n && nat_le n 5
+allows an_update n = nat_le 1 n && nat_le n 5
+allows a_fence n = nat_le 2 n && nat_le n 5
 
 -- whether events of a kind access a location
 abbrev pub accesses : Kind → Bool
 accesses a_read = true
 accesses a_write = true
-accesses an-update = true
-accesses a-fence = false
+accesses an_update = true
+accesses a_fence = false
 
 -- the label that a kind of event takes from its arguments
 abbrev pub labelled : Kind → Arguments → Label
 labelled a_read x = Read x.location x.read (numbered_mode x.mode)
 labelled a_write x = Write x.location x.written (numbered_mode x.mode)
-labelled an-update x = Update x.location x.read x.written (numbered_mode x.mode)
-labelled a-fence x = Fence (numbered_mode x.mode)
+labelled an_update x = Update x.location x.read x.written (numbered_mode x.mode)
+labelled a_fence x = Fence (numbered_mode x.mode)
 
 abbrev pub kind_of : Label → Kind
 kind_of (Read l v m) = a_read
 kind_of (Write l v m) = a_write
-kind_of (Update l b a m) = an-update
-kind_of (Fence m) = a-fence
+kind_of (Update l b a m) = an_update
+kind_of (Fence m) = a_fence
 
 -- the location of an access
 abbrev pub location : Label → Option ℕ

@@ -4,7 +4,7 @@ use lib.ListN.{get_or-append}
 use lib.Seq.{get_or-append_seam}
 use Rattle.std.proofs.lemmas.Bool.{cases_lt}
 use Rattle.event.specs.declared.event.Kind.{Kind}
-use Rattle.event.specs.declared.event.Kind.TheVariants.{Read as a_read, Write as a_write, Update as an-update, Fence as a-fence}
+use Rattle.event.specs.declared.event.Kind.TheVariants.{Read as a_read, Write as a_write, Update as an_update, Fence as a_fence}
 use Rattle.event.specs.declared.event.Arguments.{Arguments}
 use Rattle.event.specs.declared.event.Label.{Label}
 use Rattle.event.specs.declared.event.Event.{Event}
@@ -27,21 +27,21 @@ padded (s ∷ ss) (suc r) = padded ss r
 its_location : (kind : Kind) (x : Arguments) (n l : ℕ) → T (not (accesses kind) || ltb x.location n) → location (labelled kind x) ≡ Some l → l < n
 its_location a_read x n l h e = let k = ltb→lt x.location n h in let i : x.location ≡ l = cc in omega arith
 its_location a_write x n l h e = let k = ltb→lt x.location n h in let i : x.location ≡ l = cc in omega arith
-its_location an-update x n l h e = let k = ltb→lt x.location n h in let i : x.location ≡ l = cc in omega arith
-its_location a-fence x n l h e = let z : ◌≡◌ {A = ℕ} 0 1 = cc in absurd (omega arith)
+its_location an_update x n l h e = let k = ltb→lt x.location n h in let i : x.location ≡ l = cc in omega arith
+its_location a_fence x n l h e = let z : ◌≡◌ {A = ℕ} 0 1 = cc in absurd (omega arith)
 
 -- a mode that is allowed is the mode of its number
 allowed_mode : (kind : Kind) (n : ℕ) → T (allows kind n) → T (allows kind (mode_number (numbered_mode n)))
 allowed_mode a_read n h = grind arith
 allowed_mode a_write n h = grind arith
-allowed_mode an-update n h = grind arith
-allowed_mode a-fence n h = grind arith
+allowed_mode an_update n h = grind arith
+allowed_mode a_fence n h = grind arith
 
 its_mode : (kind : Kind) (x : Arguments) → T (allows kind x.mode) → T (allows (kind_of (labelled kind x)) (mode_number (mode_of (labelled kind x))))
 its_mode a_read x h = allowed_mode a_read x.mode h
 its_mode a_write x h = allowed_mode a_write x.mode h
-its_mode an-update x h = allowed_mode an-update x.mode h
-its_mode a-fence x h = allowed_mode a-fence x.mode h
+its_mode an_update x h = allowed_mode an_update x.mode h
+its_mode a_fence x h = allowed_mode a_fence x.mode h
 
 module _ (g : Content) (sg : Sound g) (kind : Kind) (x : Arguments) (fits : denial g (record_event kind x) ≡ None) where
   fine : Records g kind x

@@ -3,7 +3,7 @@ use Rattle.std.specs.Prelude.{ℕ, Bool, cond, not, ◌&&◌, ◌||◌, [], ◌�
 use Rattle.event.specs.declared.event.Kind.{Kind}
 use Rattle.event.specs.declared.event.Arguments.{Arguments}
 use Rattle.event.specs.declared.denial.Denial.{Denial}
-use Rattle.event.specs.declared.denial.Denial.TheVariants.{Range, Mode, Full, Kind as Other-kind, Site, Value, Twice, Loose}
+use Rattle.event.specs.declared.denial.Denial.TheVariants.{Range, Mode, Full, Kind as OtherKind, Site, Value, Twice, Loose}
 use Rattle.event.specs.Labels.{allows, accesses, labelled, agree, is_read, is_write, value_read, value_written}
 use Rattle.event.specs.Denials.{unless}
 use Rattle.execution.specs.Lists.{holds, insert_after}
@@ -30,8 +30,8 @@ denial g (record_event kind x) =
 denial g (link r w) =
     unless (stands g r) (Range 1) (
     unless (stands g w) (Range 2) (
-    unless (is_read (label_of g r)) (Other-kind 1) (
-    unless (is_write (label_of g w)) (Other-kind 2) (
+    unless (is_read (label_of g r)) (OtherKind 1) (
+    unless (is_write (label_of g w)) (OtherKind 2) (
     unless (same_location g w r) Site (
     unless (agree (value_written (label_of g w)) (value_read (label_of g r))) Value (
     unless (not (is_some (source_of g r))) Twice
@@ -39,8 +39,8 @@ denial g (link r w) =
 denial g (place w v) =
     unless (stands g w) (Range 1) (
     unless (stands g v) (Range 2) (
-    unless (is_write (label_of g w)) (Other-kind 1) (
-    unless (is_write (label_of g v)) (Other-kind 2) (
+    unless (is_write (label_of g w)) (OtherKind 1) (
+    unless (is_write (label_of g v)) (OtherKind 2) (
     unless (same_location g v w) Site (
     unless (not (holds g.placed w)) Twice (
     unless (holds g.placed v) Loose

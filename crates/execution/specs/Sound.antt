@@ -10,7 +10,7 @@ pub record Linked (g : Content) (w r : ℕ) : Type 0 where
   pub writes : T (is_write (label_of g w))
   pub there : T (same_location g w r)
   pub value : T (agree (value_written (label_of g w)) (value_read (label_of g r)))
-  deriving IsProp as linked-prop
+  deriving IsProp as linked_prop
 
 -- a recorded event has one of the threads, one of the locations and a mode that its label allows
 pub record Recorded (g : Content) (a : ℕ) : Type 0 where
@@ -18,7 +18,7 @@ pub record Recorded (g : Content) (a : ℕ) : Type 0 where
   pub its_thread : thread_of g a ≤ g.threads
   pub its_location : (l : ℕ) → location (label_of g a) ≡ Some l → l < g.locations
   pub its_mode : T (allows (kind_of (label_of g a)) (mode_number (mode_of (label_of g a))))
-  deriving IsProp as recorded-prop
+  deriving IsProp as recorded_prop
 
 -- what every graph keeps
 pub record Sound (g : Content) : Type 0 where
@@ -36,7 +36,7 @@ pub record Sound (g : Content) : Type 0 where
   pub placed_once : T (distinct g.placed)
   pub initial_placed : (l : ℕ) → l < g.locations → T (holds g.placed l)
   pub initial_first : (l w : ℕ) → l < g.locations → T (holds g.placed w) → T (same_location g l w) → (l ≢ w) → T (precedes g.placed l w)
-  deriving IsProp as Sound-prop
+  deriving IsProp as sound_prop
 
 -- every event, link and pair of the modification order of g is in h, under the same numbers
 pub record Within (g h : Content) : Type 0 where

@@ -8,14 +8,14 @@ use base.Stored.{Coded-set}
 use Rattle.event.specs.contracts.event.Event.{the_row}
 use Rattle.graph.specs.declared.tables.Graph.{Graph}
 use Rattle.execution.specs.Content.{Content}
-use Rattle.execution.specs.Sound.{Sound, Sound-prop, recorded-prop, linked-prop}
+use Rattle.execution.specs.Sound.{Sound, sound_prop, recorded_prop, linked_prop}
 use Rattle.graph.specs.View.{view}
 
 sound_is_prop : (g : Content) → IsProp (Sound g)
-sound_is_prop g = Sound-prop {g = g} le_prop le_prop le_prop le_prop le_prop le_prop (ℕ_set _ _)
+sound_is_prop g = sound_prop {g = g} le_prop le_prop le_prop le_prop le_prop le_prop (ℕ_set _ _)
     (Π_prop λ l. Π_prop λ h. Coded-set the_row.coded _ _)
-    (Π_prop λ a. Π_prop λ h. Π_prop λ k. recorded-prop le_prop le_prop (Π_prop λ l. Π_prop λ e. le_prop) (T_prop _))
-    (Π_prop λ w. Π_prop λ r. Π_prop λ h. linked-prop (T_prop _) (T_prop _) (T_prop _) (T_prop _))
+    (Π_prop λ a. Π_prop λ h. Π_prop λ k. recorded_prop le_prop le_prop (Π_prop λ l. Π_prop λ e. le_prop) (T_prop _))
+    (Π_prop λ w. Π_prop λ r. Π_prop λ h. linked_prop (T_prop _) (T_prop _) (T_prop _) (T_prop _))
     (Π_prop λ w. Π_prop λ h. T_prop _)
     (T_prop _)
     (Π_prop λ l. Π_prop λ h. T_prop _)

@@ -5,7 +5,7 @@ use Rattle.execution.specs.Content.{Content}
 use Rattle.cycles.specs.Cycles.{Acyclic}
 use Rattle.model.specs.Meaning.{Meaning, Few, Inside, Beyond, Floor, Growth}
 use Rattle.verdict.specs.declared.verdict.Verdict.{Verdict}
-use Rattle.verdict.specs.declared.verdict.Verdict.TheVariants.{Allowed as is-allowed}
+use Rattle.verdict.specs.declared.verdict.Verdict.TheVariants.{Allowed as is_allowed}
 use Rattle.verdict.specs.Places.{PlacedFirst}
 use Rattle.verdict.specs.States.{State}
 use Rattle.verdict.specs.Denials.{judge_denial}
@@ -22,9 +22,9 @@ module _ (m : Meaning) (s : State) (before : List ℕ) (passed : judge_denial s 
       subst₂ (λ (r : Verdict) (a : List ℕ). Judged m s before (Ok r) a) (sym shown.returned) (sym shown.sheet)
       (judged_cyclic m s before passed k shown.cycle below lower shown.first)
 
-  pub allowed_as_shown : (h : Content) (after : List ℕ) → PlacedFirst m s.content h → OrderShown m h before after → Judged m s before (Ok is-allowed) after
+  pub allowed_as_shown : (h : Content) (after : List ℕ) → PlacedFirst m s.content h → OrderShown m h before after → Judged m s before (Ok is_allowed) after
   allowed_as_shown h after first shown =
-      subst (λ (a : List ℕ). Judged m s before (Ok is-allowed) a) (sym shown.sheet)
+      subst (λ (a : List ℕ). Judged m s before (Ok is_allowed) a) (sym shown.sheet)
       (judged_allowed m s before passed h shown.lists first shown.listed.as_many shown.listed.listed)
 
 -- a right judge by a model that keeps the rules

@@ -4,7 +4,7 @@ use Rattle.execution.specs.Content.{Content}
 use Rattle.cycles.specs.Cycles.{FirstCycle}
 use Rattle.model.specs.Meaning.{Meaning}
 use Rattle.verdict.specs.declared.verdict.Verdict.{Verdict}
-use Rattle.verdict.specs.declared.verdict.Verdict.TheVariants.{Cycle as has-cycle}
+use Rattle.verdict.specs.declared.verdict.Verdict.TheVariants.{Cycle as has_cycle}
 use Rattle.verdict.specs.Shown.{modification_orders}
 use Rattle.verdict.specs.States.{State}
 use Rattle.verdict.specs.Answers.{joined, laid}
@@ -18,7 +18,7 @@ state_of closed g = record { content = g; closed = closed }
 pub record CycleShown (m : Meaning) (g : Content) (k : ℕ) (before : List ℕ) (result : Verdict) (after : List ℕ) : Type 0 where
   pub cycle : List ℕ
   pub first : FirstCycle (m.pairs g k) cycle
-  pub returned : result ≡ has-cycle k (length cycle)
+  pub returned : result ≡ has_cycle k (length cycle)
   pub sheet : after ≡ laid cycle before
 
 -- the lists of h and then its modification orders stand at the start of the sheet

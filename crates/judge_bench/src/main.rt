@@ -1,5 +1,6 @@
 //! Times judges on graphs of 256 events with eight open writes.
 //! Standard output has the verdicts, standard error how long they take. The argument is the number of rounds.
+#![tactic(auto)]
 
 use boards::Board;
 use event::{Arguments, Denial, Kind, Size};

@@ -1,5 +1,6 @@
 //! Judges litmus tests by every model, bare and under each layer, and prints the verdicts as one table.
 //! The arguments are the names of the recordings; the strong set, the barrier and the model of a recording do not count.
+#![tactic(auto)]
 
 use anyhow::anyhow;
 use boards::Board;

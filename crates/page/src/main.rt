@@ -1,4 +1,5 @@
 //! Reads a recording from standard input and writes its report, or why it is denied, to standard output.
+#![tactic(auto)]
 
 use report::PAGE;
 use std::io::{Read, Write};

@@ -1,7 +1,7 @@
 //! The kinds of line, and where their fields stand.
 
 ghost use Rattle.std.specs.Prelude.{◌≡◌, ◌≤◌};
-ghost use Rattle.recording.specs.Layout.{lettered, layout as layout_of, fills as Fills-field, column as column-of};
+ghost use Rattle.recording.specs.Layout.{lettered, layout as layout_of, fills as fills_field, column as column_of};
 
 use event::Kind;
 
@@ -48,7 +48,7 @@ impl LineKind {
 
     pub(crate) fn fills(self, position: u8) -> bool
         requires one_of_five { (1 ≤ position) × (position ≤ 5) }
-        ensures { result ≡ Fills-field self position }
+        ensures { result ≡ fills_field self position }
     {
         self.layout()[position as usize - 1]
     }
@@ -56,7 +56,7 @@ impl LineKind {
 
 /// The first column of the field at a position; the newline's is that of position 6.
 pub(crate) fn column(position: u8) -> u8
-    ensures { result ≡ column-of position }
+    ensures { result ≡ column_of position }
 {
     match position {
         1 => 2,

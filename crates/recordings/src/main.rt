@@ -1,4 +1,5 @@
 //! Reads many short recordings, each behind a title line that begins with '#', and tells what comes of each.
+#![tactic(auto)]
 
 ghost use Rattle.std.specs.Prelude.{◌<◌, ◌≤◌, length};
 

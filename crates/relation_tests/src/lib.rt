@@ -1,4 +1,6 @@
 //! Hand-made relations, with the answers worked out by hand.
+#![tactic(auto)]
+
 #[cfg(test)]
 mod cycling;
 #[cfg(test)]

@@ -51,6 +51,6 @@ fn across_words(rt: HostRuntime) -> Result<(), Fail> {
     assert!(rt; events.len() == 256);
     assert!(rt; events[62] == 62 && events[63] == 65 && events[124] == 126);
     assert!(rt; events[125] == 129 && events[250] == 254);
-    assert!(rt; &events[251..] == &[255, 128, 127, 64, 63]);
+    assert!(rt; &events[251..] == [255, 128, 127, 64, 63].as_slice());
     Ok(())
 }

@@ -1,5 +1,5 @@
 -- The order of each location begins with its initial write, which tells the orders apart where they stand in a row.
-use Rattle.std.proofs.Common.{◌≡◌, ℕ, suc, ◌+◌, ◌<◌, ◌≤◌, Bool, true, false, cond, T, eqb, ltb, List, [], ◌∷◌, ◌++◌, map, length, get_or, Some, Option, sym, refl, ap, ◌∙◌, subst, inl, inr, add-zero, arith, eqb→eq}
+use Rattle.std.proofs.Common.{◌≡◌, ℕ, suc, ◌+◌, ◌<◌, ◌≤◌, Bool, true, false, cond, T, eqb, ltb, List, [], ◌∷◌, ◌++◌, length, get_or, Some, Option, sym, refl, ap, ◌∙◌, subst, inl, inr, add-zero, arith, eqb→eq}
 use Rattle.std.specs.List.{AllByRecursion as All}
 use Rattle.std.proofs.lemmas.List.{append_assoc, length-map, get_or-map}
 use Rattle.std.proofs.lemmas.Bool.{cases_eq, cases_lt, lt-ltb, le-ltb}
@@ -8,7 +8,7 @@ use Rattle.event.specs.Labels.{agree, location}
 use Rattle.execution.specs.Lists.{holds, precedes, distinct, upto}
 use Rattle.execution.specs.Content.{Content, label_of, same_location}
 use Rattle.execution.specs.Sound.{Sound}
-use Rattle.execution.proofs.Tests.{both, left, right, either, yes_no, same}
+use Rattle.execution.proofs.Tests.{both, left, either, yes_no, same}
 use Rattle.execution.proofs.Lists.{kept_holds, kept_passes, kept_distinct, upto_length, upto_at}
 use Rattle.verdict.specs.Shown.{modification_order, modification_orders}
 use Rattle.verdict.specs.Answers.{joined}

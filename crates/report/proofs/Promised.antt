@@ -9,7 +9,7 @@ use Rattle.execution.specs.Content.{Content}
 use Rattle.execution.specs.Sound.{Sound}
 use Rattle.model.specs.Meaning.{Meaning, Rules}
 use Rattle.verdict.specs.declared.verdict.Verdict.{Verdict}
-use Rattle.verdict.specs.declared.verdict.Verdict.TheVariants.{Allowed as is-allowed, Cycle as has-cycle, NoPlacement as has-no-placement}
+use Rattle.verdict.specs.declared.verdict.Verdict.TheVariants.{Allowed as is_allowed, Cycle as has_cycle, NoPlacement as has_no_placement}
 use Rattle.verdict.specs.States.{as_closed}
 use Rattle.verdict.specs.Denials.{judge_denial}
 use Rattle.verdict.specs.Answers.{Answer, allowed, cyclic, no_placement, denied, Found, RightUnless, told, written}
@@ -48,13 +48,13 @@ answered_ok g no_placement v e = refl
 answered_ok g (denied d) v e = cc
 
 -- the report of what a verdict is told of
-allowed_text : (m : Meaning) (g : Content) (a : Answer) (rest : List ℕ) → Found m g a → Ok is-allowed ≡ told a → from_sheet g m.orders (written a ++ rest) ≡ report g a
+allowed_text : (m : Meaning) (g : Content) (a : Answer) (rest : List ℕ) → Found m g a → Ok is_allowed ≡ told a → from_sheet g m.orders (written a ++ rest) ≡ report g a
 allowed_text m g (allowed lists orders) rest f e = sheet_reported m g f.0 lists orders rest f.1
 allowed_text m g (cyclic k xs) rest f e = cc
 allowed_text m g no_placement rest f e = cc
 allowed_text m g (denied d) rest f e = cc
 
-cycle_text : (g : Content) (a : Answer) (k n : ℕ) (rest : List ℕ) → Ok (has-cycle k n) ≡ told a → report g (cyclic k (take n (written a ++ rest))) ≡ report g a
+cycle_text : (g : Content) (a : Answer) (k n : ℕ) (rest : List ℕ) → Ok (has_cycle k n) ≡ told a → report g (cyclic k (take n (written a ++ rest))) ≡ report g a
 cycle_text g (allowed lists orders) k n rest e = cc
 cycle_text g (cyclic j xs) k n rest e =
     let same : j ≡ k = cc in
@@ -63,13 +63,13 @@ cycle_text g (cyclic j xs) k n rest e =
 cycle_text g no_placement k n rest e = cc
 cycle_text g (denied d) k n rest e = cc
 
-no_placement_text : (g : Content) (a : Answer) → Ok has-no-placement ≡ told a → report g no_placement ≡ report g a
+no_placement_text : (g : Content) (a : Answer) → Ok has_no_placement ≡ told a → report g no_placement ≡ report g a
 no_placement_text g (allowed lists orders) e = cc
 no_placement_text g (cyclic k xs) e = cc
 no_placement_text g no_placement e = refl
 no_placement_text g (denied d) e = cc
 
-cycle_order : (m : Meaning) (g : Content) (a : Answer) (k n : ℕ) → Found m g a → Ok (has-cycle k n) ≡ told a → (k < m.orders) × (n ≡ length (written a))
+cycle_order : (m : Meaning) (g : Content) (a : Answer) (k n : ℕ) → Found m g a → Ok (has_cycle k n) ≡ told a → (k < m.orders) × (n ≡ length (written a))
 cycle_order m g (allowed lists orders) k n f e = let z : ◌≡◌ {A = ℕ} 0 1 = cc in absurd (omega arith)
 cycle_order m g (cyclic j xs) k n f e =
     let same : j ≡ k = cc in
@@ -121,25 +121,25 @@ module _ (m : Meaning) (g : Content) (before zeros sheet : List ℕ) (long : len
     sheet_is : sheet ≡ written l.judged.answer ++ drop (length (written l.judged.answer)) zeros
     sheet_is = l.judged.sheet
 
-    pub printed_allowed : v ≡ is-allowed → 17934 ≤ length before → (k end : ℕ) (after : List ℕ) → k ≡ m.orders → Written 0 (from_sheet g k sheet) before end after → LawfullyPrinted m g before (Ok end) after
+    pub printed_allowed : v ≡ is_allowed → 17934 ≤ length before → (k end : ℕ) (after : List ℕ) → k ≡ m.orders → Written 0 (from_sheet g k sheet) before end after → LawfullyPrinted m g before (Ok end) after
     printed_allowed is room k end after all w =
         let a = l.judged.answer in
         let text = ap (λ (n : ℕ). from_sheet g n sheet) all ∙ ap (from_sheet g m.orders) sheet_is ∙ allowed_text m g a (drop (length (written a)) zeros) found.1 (ap (λ (x : Verdict). Ok x) (sym is) ∙ l.judged.returned) in
         printed_report room end after (subst (λ (xs : List ℕ). Written 0 xs before end after) text w)
 
-    pub printed_cycle : (k n : ℕ) → v ≡ has-cycle k n → 17934 ≤ length before → (end : ℕ) (after : List ℕ) → Written 0 (report g (cyclic k (take n sheet))) before end after → LawfullyPrinted m g before (Ok end) after
+    pub printed_cycle : (k n : ℕ) → v ≡ has_cycle k n → 17934 ≤ length before → (end : ℕ) (after : List ℕ) → Written 0 (report g (cyclic k (take n sheet))) before end after → LawfullyPrinted m g before (Ok end) after
     printed_cycle k n is room end after w =
         let a = l.judged.answer in
         let text = ap (λ (xs : List ℕ). report g (cyclic k (take n xs))) sheet_is ∙ cycle_text g a k n (drop (length (written a)) zeros) (ap (λ (x : Verdict). Ok x) (sym is) ∙ l.judged.returned) in
         printed_report room end after (subst (λ (xs : List ℕ). Written 0 xs before end after) text w)
 
-    pub printed_no_placement : v ≡ has-no-placement → 17934 ≤ length before → (end : ℕ) (after : List ℕ) → Written 0 (report g no_placement) before end after → LawfullyPrinted m g before (Ok end) after
+    pub printed_no_placement : v ≡ has_no_placement → 17934 ≤ length before → (end : ℕ) (after : List ℕ) → Written 0 (report g no_placement) before end after → LawfullyPrinted m g before (Ok end) after
     printed_no_placement is room end after w =
         let text = no_placement_text g l.judged.answer (ap (λ (x : Verdict). Ok x) (sym is) ∙ l.judged.returned) in
         printed_report room end after (subst (λ (xs : List ℕ). Written 0 xs before end after) text w)
 
     -- the order of a cycle is one of the model's, and the cycle fits the sheet
-    pub cycle_fits : (k n : ℕ) → v ≡ has-cycle k n → Rules m → Sound g → (k < m.orders) × (n ≤ 1280)
+    pub cycle_fits : (k n : ℕ) → v ≡ has_cycle k n → Rules m → Sound g → (k < m.orders) × (n ≤ 1280)
     cycle_fits k n is rules sound =
         let a = l.judged.answer in
         let order = cycle_order m g a k n found.1 (ap (λ (x : Verdict). Ok x) (sym is) ∙ l.judged.returned) in

@@ -1,4 +1,5 @@
 //! The page: lines of the report, laid at the start of the caller's slice of bytes.
+#![tactic(auto)]
 
 pub mod denied;
 pub mod judged;

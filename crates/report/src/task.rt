@@ -2,7 +2,7 @@
 
 ghost use Rattle.std.specs.Prelude.{◌≡◌, ℕ, ◌<◌, ◌≤◌, List, length, take, IfOk, Some, Err};
 ghost use Rattle.boards.specs.Boards.{meaning_of, numbered};
-ghost use Rattle.boards.specs.declared.board.Board.{Board as A-board};
+ghost use Rattle.boards.specs.declared.board.Board.{Board as ABoard};
 ghost use Rattle.graph.specs.View.{of_closed};
 ghost use Rattle.event.specs.declared.denial.Denial.TheVariants.{Page};
 ghost use Rattle.recording.specs.Headings.{heading_of};
@@ -46,7 +46,7 @@ fn report_recording(recording: Recording, page: &mut [u8]) -> Result<usize, Deni
 
 /// Prints by the strong layer over the barrier layer, where that is asked for, over the model.
 fn print_recording(recording: Recording, page: &mut [u8]) -> Result<usize, Denial>
-    ensures { (b : A-board) × (numbered recording.header.model ≡ Some b) × LawfullyPrinted (piled recording.header.strong recording.header.barrier (meaning_of b)) (of_closed recording.graph) page.old result page.new }
+    ensures { (b : ABoard) × (numbered recording.header.model ≡ Some b) × LawfullyPrinted (piled recording.header.strong recording.header.barrier (meaning_of b)) (of_closed recording.graph) page.old result page.new }
 {
     let Recording { header, graph } = recording;
     let Ok(board) = Board::numbered(u32::from(header.model)) else {

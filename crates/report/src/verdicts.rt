@@ -3,7 +3,7 @@
 ghost use Rattle.std.specs.Prelude.{◌≡◌, ◌≤◌, length};
 ghost use Rattle.graph.specs.View.{view};
 ghost use Rattle.report.specs.Flat.{from_sheet};
-ghost use Rattle.report.specs.Reports.{report, writes as all-writes};
+ghost use Rattle.report.specs.Reports.{report, writes as all_writes};
 ghost use Rattle.report.specs.Texts.{Fits, Listable, Written};
 ghost use Rattle.verdict.specs.Answers.{cyclic, no_placement};
 
@@ -52,7 +52,7 @@ pub(crate) fn write_no_placement(graph: &Graph, page: &mut [u8]) -> usize
 
 /// How many writes a graph has, initial ones and updates included.
 fn writes_of(graph: &Graph) -> usize
-    ensures counted { result ≡ all-writes (view graph.now) }
+    ensures counted { result ≡ all_writes (view graph.now) }
     ensures few { result ≤ 256 }
 {
     let mut writes = 0;

@@ -1,5 +1,6 @@
 //! Prints the report of each recording in data/, in the order of the names that it is given.
 //! What it must print was worked out by hand.
+#![tactic(auto)]
 
 use anyhow::anyhow;
 use report::PAGE;

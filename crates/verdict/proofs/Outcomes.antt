@@ -5,7 +5,7 @@ use Rattle.execution.specs.Content.{Content}
 use Rattle.cycles.specs.Cycles.{Acyclic, FirstCycle}
 use Rattle.cycles.specs.Listings.{Listing}
 use Rattle.model.specs.Meaning.{Meaning, Serves}
-use Rattle.verdict.specs.declared.verdict.Verdict.TheVariants.{Allowed as is-allowed, Cycle as has-cycle, NoPlacement as has-no-placement}
+use Rattle.verdict.specs.declared.verdict.Verdict.TheVariants.{Allowed as is_allowed, Cycle as has_cycle, NoPlacement as has_no_placement}
 use Rattle.verdict.specs.Completions.{Allowed}
 use Rattle.verdict.specs.Places.{PlacedFirst}
 use Rattle.verdict.specs.Shown.{modification_orders}
@@ -44,13 +44,13 @@ module _ (m : Meaning) (s : State) (before : List ℕ) where
     }
 
     pub judged_cyclic : (k : ℕ) (xs : List ℕ) → k < m.orders → ((j : ℕ) → j < k → Acyclic (m.pairs s.content j)) → FirstCycle (m.pairs s.content k) xs
-        → Judged m s before (Ok (has-cycle k (length xs))) (laid xs before)
+        → Judged m s before (Ok (has_cycle k (length xs))) (laid xs before)
     judged_cyclic k xs l none first = found_right (cyclic k xs) (l, none, first)
 
-    pub judged_no_placement : Serves m s.content → (Allowed m s.content → ⊥) → Judged m s before (Ok has-no-placement) before
+    pub judged_no_placement : Serves m s.content → (Allowed m s.content → ⊥) → Judged m s before (Ok has_no_placement) before
     judged_no_placement serves none = found_right no_placement (serves, none)
 
     pub judged_allowed : (h : Content) (lists : List (List ℕ)) → PlacedFirst m s.content h → length lists ≡ m.orders
         → ((k : ℕ) → k < m.orders → Listing (m.pairs h k) (length h.events) (get_or lists k []))
-        → Judged m s before (Ok is-allowed) (laid (joined lists ++ joined (modification_orders h)) before)
+        → Judged m s before (Ok is_allowed) (laid (joined lists ++ joined (modification_orders h)) before)
     judged_allowed h lists p e listed = found_right (allowed lists (modification_orders h)) (h, record { placed = p; as_many = e; listed = listed; ordered = refl })

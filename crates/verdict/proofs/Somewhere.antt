@@ -3,7 +3,7 @@ use Rattle.std.proofs.Common.{◌≡◌, ℕ, suc, ◌<◌, ◌≤◌, Bool, tru
 use lib.Dec.{eqb_refl}
 use Rattle.std.proofs.lemmas.Bool.{cases_lt, cases_eq}
 use Rattle.event.specs.declared.denial.Denial.{Denial}
-use Rattle.event.specs.declared.denial.Denial.TheVariants.{Range, Kind as Other-kind, Site, Twice, Loose}
+use Rattle.event.specs.declared.denial.Denial.TheVariants.{Range, Kind as OtherKind, Site, Twice, Loose}
 use Rattle.event.specs.declared.event.Label.{Label}
 use Rattle.event.specs.declared.event.Label.TheVariants.{Read, Write, Update, Fence}
 use Rattle.event.specs.declared.event.Event.{Event}
@@ -30,8 +30,8 @@ pub place_fits : (g : Content) → Sound g → (w v : ℕ) → T (is_open g w) �
 place_fits g s w v o near placed =
     passing (stands g w) (Range 1) _ (lt→ltb w _ (write_among g w writes)) (
     passing (stands g v) (Range 2) _ (lt→ltb v _ (write_among g v (s.placed_writes v placed))) (
-    passing (is_write (label_of g w)) (Other-kind 1) _ writes (
-    passing (is_write (label_of g v)) (Other-kind 2) _ (s.placed_writes v placed) (
+    passing (is_write (label_of g w)) (OtherKind 1) _ writes (
+    passing (is_write (label_of g v)) (OtherKind 2) _ (s.placed_writes v placed) (
     passing (same_location g v w) Site _ near (
     passing (not (holds g.placed w)) Twice _ (right (is_write (label_of g w)) _ o) (
     passing (holds g.placed v) Loose _ placed refl))))))

@@ -5,7 +5,7 @@ use Rattle.execution.specs.Content.{Content}
 use Rattle.cycles.specs.Cycles.{Acyclic, FirstCycle}
 use Rattle.model.specs.Meaning.{Meaning, Serves}
 use Rattle.verdict.specs.declared.verdict.Verdict.{Verdict}
-use Rattle.verdict.specs.declared.verdict.Verdict.TheVariants.{Allowed as is-allowed, Cycle as has-cycle, NoPlacement as has-no-placement}
+use Rattle.verdict.specs.declared.verdict.Verdict.TheVariants.{Allowed as is_allowed, Cycle as has_cycle, NoPlacement as has_no_placement}
 use Rattle.verdict.specs.Completions.{Allowed}
 use Rattle.verdict.specs.Shown.{Shown}
 use Rattle.verdict.specs.States.{State}
@@ -40,9 +40,9 @@ RightAnswer m s n a = RightUnless (judge_denial s n) m s.content a
 
 -- what the call returns
 abbrev pub told : Answer → Result Verdict Denial
-told (allowed lists orders) = Ok is-allowed
-told (cyclic k xs) = Ok (has-cycle k (length xs))
-told no_placement = Ok has-no-placement
+told (allowed lists orders) = Ok is_allowed
+told (cyclic k xs) = Ok (has_cycle k (length xs))
+told no_placement = Ok has_no_placement
 told (denied d) = Err d
 
 -- lists one after the other

@@ -4,7 +4,7 @@ use Rattle.cycles.specs.Cycles.{FirstCycle}
 use Rattle.relation.specs.Sequences.{events}
 use Rattle.relation.proofs.Same.{is_same}
 use Rattle.relation.proofs.Sequenced.{events_length}
-use Rattle.verdict.specs.declared.verdict.Verdict.TheVariants.{Cycle as has-cycle}
+use Rattle.verdict.specs.declared.verdict.Verdict.TheVariants.{Cycle as has_cycle}
 use Rattle.judge.specs.Sheets.{put}
 use Rattle.judge.proofs.Sheets.{put_start}
 use Rattle.judge.proofs.Orders.{not_without}
@@ -34,6 +34,6 @@ returns g c =
     record {
       cycle = events c.in-Some.cycle;
       first = subst (λ (r : ℕ → ℕ → Bool). FirstCycle r (events c.in-Some.cycle)) same c.in-Some.ensures.else_the_shortest_and_of_those_the_first;
-      returned = ap (λ (n : ℕ). has-cycle c.args.order n) (c.write_events-length.ensures.ends ∙ zero-add _ ∙ ap length told);
+      returned = ap (λ (n : ℕ). has_cycle c.args.order n) (c.write_events-length.ensures.ends ∙ zero-add _ ∙ ap length told);
       sheet = c.write_events-length.ensures.written ∙ ap (λ (zs : List ℕ). put 0 zs c.args.sheet.now) told ∙ put_start (events c.in-Some.cycle) c.args.sheet.now;
     }

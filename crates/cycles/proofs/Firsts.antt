@@ -1,7 +1,7 @@
 -- The first cycle: how it is found, that it is told from its lowest event, and that there is one at most.
 use Rattle.std.proofs.Common.{◌≡◌, ℕ, ◌<◌, ◌≤◌, Bool, T, List, [], ◌∷◌, ◌++◌, length, sym, refl, ap, ◌∙◌, subst, inl, inr, arith, length-append}
 use lib.Seq.{append_snoc}
-use Rattle.std.specs.List.{AllByRecursion as All}
+use Rattle.std.specs.List.{AllByRecursion}
 use Rattle.std.proofs.lemmas.Bool.{cases_order}
 use Rattle.cycles.specs.Cycles.{Leads, Cycle, Acyclic, NotAfter, FirstCycle, Way}
 use Rattle.cycles.specs.Laws.{OneFirstCycle}
@@ -36,7 +36,7 @@ module _ (r : ℕ → ℕ → Bool) where
 
   -- a cycle as short as any, told from the event at which it comes first, is told from its lowest event
   from_lowest : (a : ℕ) (xs : List ℕ) → Leads r a xs a
-      → ((ys : List ℕ) → Cycle r ys → length ys ≡ length (a ∷ xs) → NotAfter (a ∷ xs) ys) → All (λ x. a ≤ x) xs
+      → ((ys : List ℕ) → Cycle r ys → length ys ≡ length (a ∷ xs) → NotAfter (a ∷ xs) ys) → AllByRecursion (λ x. a ≤ x) xs
   from_lowest a xs h first = each [] xs refl
     where
       lower : (ys : List ℕ) (x : ℕ) (zs : List ℕ) → xs ≡ ys ++ (x ∷ zs) → a ≤ x
@@ -50,7 +50,7 @@ module _ (r : ℕ → ℕ → Bool) where
             | inr p ↦ let same = p.0 in omega arith
           ]
 
-      each : (ys zs : List ℕ) → xs ≡ ys ++ zs → All (λ x. a ≤ x) zs
+      each : (ys zs : List ℕ) → xs ≡ ys ++ zs → AllByRecursion (λ x. a ≤ x) zs
       each ys [] e = tt
       each ys (x ∷ zs) e = (lower ys x zs e, each (ys ++ (x ∷ [])) zs (e ∙ sym (append_snoc ys x zs)))
 

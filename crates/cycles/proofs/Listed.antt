@@ -2,7 +2,7 @@
 use Rattle.std.proofs.Common.{◌≡◌, ℕ, zero, suc, ◌<◌, ◌≤◌, Bool, true, false, ◌||◌, T, eqb, ◌⊎◌, List, [], ◌∷◌, ◌++◌, length, sym, refl, ap, ◌∙◌, subst, inl, inr, append-nil, arith, eqb→eq, length-append}
 use lib.Dec.{eqb_refl}
 use lib.Seq.{append_snoc}
-use Rattle.std.specs.List.{AllByRecursion as All}
+use Rattle.std.specs.List.{AllByRecursion}
 use Rattle.std.proofs.lemmas.Bool.Decides.{nat_tests}
 use Rattle.cycles.specs.Steps.{Plus, step}
 use Rattle.cycles.specs.Cycles.{Acyclic}
@@ -78,10 +78,10 @@ module _ (r : ℕ → ℕ → Bool) (n : ℕ) where
         apart xs (λ us vs a e h. g (x ∷ us) vs a (ap (λ (l : List ℕ). x ∷ l) e) (grind arith)),
       )
 
-  pub begun_inside : (ys : List ℕ) → Begun ys → All (λ x. x < n) ys
+  pub begun_inside : (ys : List ℕ) → Begun ys → AllByRecursion (λ x. x < n) ys
   begun_inside ys f = go ys (λ us vs a e. (f.ready us vs a e).inside)
     where
-      go : (xs : List ℕ) → ((us vs : List ℕ) (a : ℕ) → xs ≡ us ++ (a ∷ vs) → a < n) → All (λ x. x < n) xs
+      go : (xs : List ℕ) → ((us vs : List ℕ) (a : ℕ) → xs ≡ us ++ (a ∷ vs) → a < n) → AllByRecursion (λ x. x < n) xs
       go [] g = tt
       go (x ∷ xs) g = (g [] xs x refl, go xs (λ us vs a e. g (x ∷ us) vs a (ap (λ (l : List ℕ). x ∷ l) e)))
 

@@ -1,6 +1,6 @@
 -- More events than there are numbers for them repeat one; so a long way goes round.
 use Rattle.std.proofs.Common.{◌≡◌, ℕ, zero, suc, ◌+◌, ◌<◌, ◌≤◌, Bool, false, cond, ◌||◌, T, eqb, ◌⊎◌, List, [], ◌∷◌, ◌++◌, length, refl, ap, subst, inl, inr, arith, eqb→eq, length-append}
-use Rattle.std.specs.List.{AllByRecursion as All}
+use Rattle.std.specs.List.{AllByRecursion}
 use Rattle.std.proofs.lemmas.Bool.{cases_eq, cases_lt}
 use Rattle.std.proofs.lemmas.Bool.Decides.{nat_tests}
 use Rattle.cycles.specs.Cycles.{Leads, Cycle, Cyclic}
@@ -89,7 +89,7 @@ count_more (suc n) x p l new = elim (cases_eq x n) [
       grind (arith, nat_tests)
 ]
 
-pub distinct_count : (n : ℕ) (xs : List ℕ) → Distinct xs → All (λ x. x < n) xs → count n (stands xs) ≡ length xs
+pub distinct_count : (n : ℕ) (xs : List ℕ) → Distinct xs → AllByRecursion (λ x. x < n) xs → count n (stands xs) ≡ length xs
 distinct_count n [] d l = none n
   where
     none : (n : ℕ) → count n (λ _. false) ≡ 0
@@ -100,10 +100,10 @@ distinct_count n (x ∷ xs) d l =
     let more = count_more n x (stands xs) l.0 d.0 in
     omega arith
 
-pub distinct_bound : (n : ℕ) (xs : List ℕ) → Distinct xs → All (λ x. x < n) xs → length xs ≤ n
+pub distinct_bound : (n : ℕ) (xs : List ℕ) → Distinct xs → AllByRecursion (λ x. x < n) xs → length xs ≤ n
 distinct_bound n xs d l = omega (arith, distinct_count n xs d l, count_bound n (stands xs))
 
-pub repeat_of_long : (n : ℕ) (xs : List ℕ) → All (λ x. x < n) xs → n < length xs → Repeat xs
+pub repeat_of_long : (n : ℕ) (xs : List ℕ) → AllByRecursion (λ x. x < n) xs → n < length xs → Repeat xs
 repeat_of_long n xs l h = elim (repeat_or_distinct xs) [
   | inl r ↦ r
   | inr d ↦ absurd (omega (arith, distinct_bound n xs d l))

@@ -1,6 +1,6 @@
 -- Ways through a relation: joined, parted, and as one or more steps.
 use Rattle.std.proofs.Common.{ℕ, ◌<◌, Bool, T, ◌⊎◌, List, [], ◌∷◌, ◌++◌, inl, inr}
-use Rattle.std.specs.List.{AllByRecursion as All}
+use Rattle.std.specs.List.{AllByRecursion}
 use Rattle.cycles.specs.Steps.{Plus, last, step, Within}
 use Rattle.cycles.specs.Cycles.{Leads, Cycle, Cyclic, Acyclic}
 use Rattle.cycles.specs.Laws.{LargerKeepsCycles, CyclesAreReturns}
@@ -18,7 +18,7 @@ module _ (r : ℕ → ℕ → Bool) where
   leads_split a [] k ys z h = h
   leads_split a (x ∷ xs) k ys z h = let p = leads_split x xs k ys z h.1 in ((h.0, p.0), p.1)
 
-  pub leads_inside : (n : ℕ) → Inside n r → (a : ℕ) (xs : List ℕ) (z : ℕ) → Leads r a xs z → All (λ x. x < n) (a ∷ xs)
+  pub leads_inside : (n : ℕ) → Inside n r → (a : ℕ) (xs : List ℕ) (z : ℕ) → Leads r a xs z → AllByRecursion (λ x. x < n) (a ∷ xs)
   leads_inside n i a [] z h = ((i a z h).0, tt)
   leads_inside n i a (x ∷ xs) z h = ((i a x h.0).0, leads_inside n i x xs z h.1)
 

@@ -1,6 +1,6 @@
 -- Cycles of a relation, and the one that is shown.
 use Rattle.std.specs.Prelude.{◌≡◌, ℕ, ◌<◌, ◌≤◌, Bool, T, ◌⊎◌, List, [], ◌∷◌, length}
-use Rattle.std.specs.List.{AllByRecursion as All}
+use Rattle.std.specs.List.{AllByRecursion}
 
 -- steps of r from a, by way of the events xs, to z
 abbrev pub Leads : (ℕ → ℕ → Bool) → ℕ → List ℕ → ℕ → Type 0
@@ -23,7 +23,7 @@ Acyclic r = (xs : List ℕ) → Cycle r xs → ⊥
 -- a list that is told from its lowest event
 abbrev pub FromLowest : List ℕ → Type 0
 FromLowest [] = Unit {0}
-FromLowest (a ∷ xs) = All (λ x. a ≤ x) xs
+FromLowest (a ∷ xs) = AllByRecursion (λ x. a ≤ x) xs
 
 -- by event numbers from left to right, the first list does not come after the second
 abbrev pub NotAfter : List ℕ → List ℕ → Type 0

@@ -2,7 +2,7 @@
 -- An allowed graph has a list of its events for each order of the model, and then each location's modification order.
 -- A forbidden one has the lowest order with a cycle and the first cycle there, unless it is forbidden at every placement.
 use Rattle.std.specs.Prelude.{List, [], ◌∷◌, ◌++◌, map, replicate}
-use Rattle.std.specs.List.{AllByRecursion as All}
+use Rattle.std.specs.List.{AllByRecursion}
 use Rattle.model.specs.Meaning.{Meaning}
 use Rattle.model.specs.Layers.{strong}
 use Rattle.boards.specs.Coh.{coh}
@@ -50,4 +50,4 @@ cases =
 
 -- every one of them is right
 abbrev pub KnownVerdicts : Type 0
-KnownVerdicts = All Known cases
+KnownVerdicts = AllByRecursion Known cases

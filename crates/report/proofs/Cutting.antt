@@ -1,6 +1,6 @@
 -- Lists in a row, cut apart again.
 use Rattle.std.proofs.Common.{◌≡◌, ℕ, ◌*◌, List, [], ◌∷◌, ◌++◌, length, take, drop, refl, ap, ◌∙◌, ap₂, suc-mul, zero-mul, arith}
-use Rattle.std.specs.List.{AllByRecursion as All}
+use Rattle.std.specs.List.{AllByRecursion}
 use Rattle.std.proofs.lemmas.List.{length-append, take_at, drop_at}
 use Rattle.verdict.specs.Answers.{joined}
 use Rattle.execution.specs.Content.{Content}
@@ -8,14 +8,14 @@ use Rattle.report.specs.Pages.{report_line}
 use Rattle.report.specs.Reports.{lists_from, writes}
 use Rattle.report.specs.Flat.{cut, orders_from, from_sheet}
 
-pub cut_joined : (n : ℕ) (xss : List (List ℕ)) → All (λ (xs : List ℕ). length xs ≡ n) xss → cut (length xss) n (joined xss) ≡ xss
+pub cut_joined : (n : ℕ) (xss : List (List ℕ)) → AllByRecursion (λ (xs : List ℕ). length xs ≡ n) xss → cut (length xss) n (joined xss) ≡ xss
 unfolding cut
 cut_joined n [] long = refl
 cut_joined n (xs ∷ xss) long =
     ap₂ (λ (ys : List ℕ) (yss : List (List ℕ)). ys ∷ yss) (take_at xs (joined xss) n long.0)
     (ap (cut (length xss) n) (drop_at xs (joined xss) n long.0) ∙ cut_joined n xss long.1)
 
-pub joined_length : (n : ℕ) (xss : List (List ℕ)) → All (λ (xs : List ℕ). length xs ≡ n) xss → length (joined xss) ≡ length xss * n
+pub joined_length : (n : ℕ) (xss : List (List ℕ)) → AllByRecursion (λ (xs : List ℕ). length xs ≡ n) xss → length (joined xss) ≡ length xss * n
 joined_length n [] long = omega (arith, zero-mul n)
 joined_length n (xs ∷ xss) long =
     omega (arith, joined_length n xss long.1, long.0, length-append xs (joined xss), suc-mul (length xss) n)

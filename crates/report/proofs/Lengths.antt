@@ -1,6 +1,6 @@
 -- Each line has 14 bytes.
 use Rattle.std.proofs.Common.{◌≡◌, ℕ, zero, suc, ◌+◌, ◌*◌, ◌≤◌, Bool, true, false, cond, ltb, List, [], ◌∷◌, length, take, drop, refl, ap, mul-le-mul_left, arith}
-use Rattle.std.specs.List.{AllByRecursion as All}
+use Rattle.std.specs.List.{AllByRecursion}
 use Rattle.std.proofs.lemmas.List.{length-append, take-append-drop}
 use Rattle.std.proofs.ByRecursion.{All-take, All-drop}
 use Rattle.verdict.specs.Answers.{joined}
@@ -18,7 +18,7 @@ pub cond_low : (b : Bool) (i : ℕ) → cond b 0 i ≤ i
 cond_low true i = omega arith
 cond_low false i = omega arith
 
-pub lines_length : (letter k i : ℕ) (xs : List ℕ) → Fits k → i + length xs ≤ 10000 → All Fits xs → length (lines_from letter k i xs) ≡ 14 * length xs
+pub lines_length : (letter k i : ℕ) (xs : List ℕ) → Fits k → i + length xs ≤ 10000 → AllByRecursion Fits xs → length (lines_from letter k i xs) ≡ 14 * length xs
 unfolding lines_from
 lines_length letter k i [] fk few each = refl
 lines_length letter k i (x ∷ xs) fk few each =
@@ -26,7 +26,7 @@ lines_length letter k i (x ∷ xs) fk few each =
     let here = line_length letter k i x fk (omega arith) each.0 in
     omega (arith, length-append (report_line letter k i x) (lines_from letter k (suc i) xs))
 
-pub lists_length : (letter k : ℕ) (xss : List (List ℕ)) → k + length xss ≤ 10000 → All Listable xss → length (lists_from letter k xss) ≡ 14 * length (joined xss)
+pub lists_length : (letter k : ℕ) (xss : List (List ℕ)) → k + length xss ≤ 10000 → AllByRecursion Listable xss → length (lists_from letter k xss) ≡ 14 * length (joined xss)
 unfolding lists_from
 lists_length letter k [] few each = refl
 lists_length letter k (xs ∷ xss) few each =
@@ -34,7 +34,7 @@ lists_length letter k (xs ∷ xss) few each =
     let here = lines_length letter k 0 xs (omega arith) (omega (arith, each.0.few)) each.0.each in
     omega (arith, length-append (lines_from letter k 0 xs) (lists_from letter (suc k) xss), length-append xs (joined xss))
 
-pub orders_length : (n l i : ℕ) (xs : List ℕ) → Fits l → i + length xs ≤ 10000 → All Fits xs → length (orders_from n l i xs) ≡ 14 * length xs
+pub orders_length : (n l i : ℕ) (xs : List ℕ) → Fits l → i + length xs ≤ 10000 → AllByRecursion Fits xs → length (orders_from n l i xs) ≡ 14 * length xs
 unfolding orders_from
 orders_length n l i [] fl few each = refl
 orders_length n l i (x ∷ xs) fl few each =
@@ -66,7 +66,7 @@ unfolding cut
 cut_length zero n xs = refl
 cut_length (suc k) n xs = ap suc (cut_length k n (drop n xs))
 
-pub cut_listable : (k n : ℕ) (xs : List ℕ) → Listable xs → All Listable (cut k n xs)
+pub cut_listable : (k n : ℕ) (xs : List ℕ) → Listable xs → AllByRecursion Listable (cut k n xs)
 unfolding cut
 cut_listable zero n xs l = tt
 cut_listable (suc k) n xs l = (listable_take n xs l, cut_listable k n (drop n xs) (listable_drop n xs l))

@@ -1,6 +1,6 @@
 -- The order of each location begins with its initial write, which tells the orders apart where they stand in a row.
 use Rattle.std.proofs.Common.{◌≡◌, ℕ, suc, ◌+◌, ◌<◌, ◌≤◌, Bool, true, false, cond, T, eqb, ltb, List, [], ◌∷◌, ◌++◌, length, get_or, Some, Option, sym, refl, ap, ◌∙◌, subst, inl, inr, add-zero, arith, eqb→eq}
-use Rattle.std.specs.List.{AllByRecursion as All}
+use Rattle.std.specs.List.{AllByRecursion}
 use Rattle.std.proofs.lemmas.List.{append_assoc, length-map, get_or-map}
 use Rattle.std.proofs.lemmas.Bool.{cases_eq, cases_lt, lt-ltb, le-ltb}
 use Rattle.event.specs.declared.event.Event.{Event}
@@ -18,7 +18,7 @@ use Rattle.report.specs.Reports.{lines_from, lists_from}
 use Rattle.report.specs.Flat.{orders_from}
 
 -- what holds of all that stand in a list
-pub all_held : (P : ℕ → Type 0) (xs : List ℕ) → ((a : ℕ) → T (holds xs a) → P a) → All P xs
+pub all_held : (P : ℕ → Type 0) (xs : List ℕ) → ((a : ℕ) → T (holds xs a) → P a) → AllByRecursion P xs
 all_held P [] f = tt
 all_held P (x ∷ xs) f = (f x (or_left (eqb x x) (holds xs x) (same x x refl)), all_held P xs (λ a k. f a (or_right (eqb x a) (holds xs a) k)))
 
@@ -26,7 +26,7 @@ all_held P (x ∷ xs) f = (f x (or_left (eqb x x) (holds xs x) (same x x refl)),
 pub record Begins (n l : ℕ) (xs : List ℕ) : Type 0 where
   pub rest : List ℕ
   pub is : xs ≡ l ∷ rest
-  pub recorded : All (λ w. n ≤ w) rest
+  pub recorded : AllByRecursion (λ w. n ≤ w) rest
 
 module _ (h : Content) (s : Sound h) (l : ℕ) (below : l < h.locations) where
   at : ℕ → Bool
@@ -94,7 +94,7 @@ module _ (n : ℕ) where
   anew true x l i xs e = refl
   anew false x l i xs e = cc
 
-  through : (ys : List ℕ) (l i : ℕ) (rest text : List ℕ) → All (λ w. n ≤ w) ys → ((k j : ℕ) → orders_from n k j rest ≡ text)
+  through : (ys : List ℕ) (l i : ℕ) (rest text : List ℕ) → AllByRecursion (λ w. n ≤ w) ys → ((k j : ℕ) → orders_from n k j rest ≡ text)
       → orders_from n l i (ys ++ rest) ≡ lines_from 77 l i ys ++ text
   unfolding orders_from lines_from
   through [] l i rest text late f = f l i

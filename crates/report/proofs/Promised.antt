@@ -1,6 +1,6 @@
 -- From what a judge answered to what a print promises.
 use Rattle.std.proofs.Common.{◌≡◌, ℕ, zero, suc, ◌<◌, ◌≤◌, List, ◌++◌, length, take, drop, replicate, Some, None, Ok, Err, Option, sym, refl, ap, ◌∙◌, subst, arith}
-use Rattle.std.specs.List.{AllByRecursion as All}
+use Rattle.std.specs.List.{AllByRecursion}
 use Rattle.std.proofs.lemmas.List.{take_at, length-replicate}
 use Rattle.std.proofs.ByRecursion.{All-append, All-drop}
 use Rattle.event.specs.declared.denial.Denial.{Denial}
@@ -81,7 +81,7 @@ cycle_order m g (denied d) k n f e = absurd f
 pub zeros_long : length (replicate {A = ℕ} 1280 0) ≡ 1280
 zeros_long = length-replicate {A = ℕ} 1280 0
 
-pub zeros_fit : (n : ℕ) → All Fits (replicate n 0)
+pub zeros_fit : (n : ℕ) → AllByRecursion Fits (replicate n 0)
 zeros_fit zero = tt
 zeros_fit (suc n) = (omega arith, zeros_fit n)
 
@@ -147,10 +147,10 @@ module _ (m : Meaning) (g : Content) (before zeros sheet : List ℕ) (long : len
         (order.0, omega (arith, order.1))
 
     -- the numbers on the sheet are of few columns
-    pub sheet_listable : Rules m → Sound g → All Fits zeros → length sheet ≡ 1280 → Listable sheet
+    pub sheet_listable : Rules m → Sound g → AllByRecursion Fits zeros → length sheet ≡ 1280 → Listable sheet
     sheet_listable rules sound none many = record {
       few = omega arith;
-      each = subst (λ (xs : List ℕ). All Fits xs) (sym l.judged.sheet)
+      each = subst (λ (xs : List ℕ). AllByRecursion Fits xs) (sym l.judged.sheet)
           (All-append Fits (written l.judged.answer) (drop (length (written l.judged.answer)) zeros) (found_fits m rules g sound l.judged.answer found.1) (All-drop Fits (length (written l.judged.answer)) zeros none));
     }
 

@@ -1,6 +1,6 @@
 -- From what a judge leaves on its sheet to the report.
 use Rattle.std.proofs.Common.{◌≡◌, ℕ, ◌+◌, ◌*◌, ◌<◌, ◌≤◌, Bool, true, false, not, leb, List, ◌++◌, length, take, drop, Some, None, Option, sym, refl, ap, ◌∙◌, subst, ap₂, arith}
-use Rattle.std.specs.List.{AllByRecursion as All}
+use Rattle.std.specs.List.{AllByRecursion}
 use Rattle.std.proofs.lemmas.List.{append_assoc, length-append, take_at, drop_at}
 use Rattle.std.proofs.ByRecursion.{All-append, All-weaker}
 use Rattle.std.proofs.lemmas.Bool.{lt-leb, le-leb}
@@ -38,7 +38,7 @@ sheet_reported m g h lists orders rest shown =
     let sheet = (joined lists ++ joined orders) ++ rest in
     let regroup : sheet ≡ joined lists ++ (joined orders ++ rest) = append_assoc (joined lists) (joined orders) rest in
     let same_events : length h.events ≡ n = ap length done.events in
-    let long : All (λ (xs : List ℕ). length xs ≡ n) lists = subst (λ (k : ℕ). All (λ (xs : List ℕ). length xs ≡ k) lists) same_events (lists_long m g h lists orders shown) in
+    let long : AllByRecursion (λ (xs : List ℕ). length xs ≡ n) lists = subst (λ (k : ℕ). AllByRecursion (λ (xs : List ℕ). length xs ≡ k) lists) same_events (lists_long m g h lists orders shown) in
     let many = joined_length n lists long in
     let front : take (length lists * n) sheet ≡ joined lists = ap (take (length lists * n)) regroup ∙ take_at (joined lists) (joined orders ++ rest) (length lists * n) many in
     let apart : cut (length lists) n (take (length lists * n) sheet) ≡ lists = ap (cut (length lists) n) front ∙ cut_joined n lists long in
@@ -54,11 +54,11 @@ sheet_reported m g h lists orders rest shown =
     subst (λ (k : ℕ). from_sheet g k sheet ≡ report g (allowed lists orders)) shown.as_many by-lists
 
 -- what an answer shows are numbers of few columns
-pub found_fits : (m : Meaning) → Rules m → (g : Content) → Sound g → (a : Answer) → Found m g a → All Fits (written a)
+pub found_fits : (m : Meaning) → Rules m → (g : Content) → Sound g → (a : Answer) → Found m g a → AllByRecursion Fits (written a)
 found_fits m rules g sg (allowed lists orders) f =
     All-append Fits (joined lists) (joined orders)
-    (all_joined Fits lists (All-weaker Small (λ (xs : List ℕ). All Fits xs) (λ (xs : List ℕ) s. fits_all xs s.each) lists (lists_small m g f.0 lists orders f.1)))
-    (all_joined Fits orders (All-weaker Small (λ (xs : List ℕ). All Fits xs) (λ (xs : List ℕ) s. fits_all xs s.each) orders (orders_small m g f.0 lists orders f.1)))
+    (all_joined Fits lists (All-weaker Small (λ (xs : List ℕ). AllByRecursion Fits xs) (λ (xs : List ℕ) s. fits_all xs s.each) lists (lists_small m g f.0 lists orders f.1)))
+    (all_joined Fits orders (All-weaker Small (λ (xs : List ℕ). AllByRecursion Fits xs) (λ (xs : List ℕ) s. fits_all xs s.each) orders (orders_small m g f.0 lists orders f.1)))
 found_fits m rules g sg (cyclic k xs) f =
     let n = length g.events in
     All-weaker (λ x. x < n) Fits (λ x l. omega (arith, sg.few_events)) xs (cycle_small (m.pairs g k) n (rules.inside g sg k) xs f.2.round)

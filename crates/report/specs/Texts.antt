@@ -1,6 +1,6 @@
 -- Text on a page.
 use Rattle.std.specs.Prelude.{◌≡◌, ℕ, ◌+◌, ◌≤◌, List, length}
-use Rattle.std.specs.List.{AllByRecursion as All}
+use Rattle.std.specs.List.{AllByRecursion}
 use Rattle.judge.specs.Sheets.{put}
 
 -- a text was written from a place on, and ends where it says; before and past that the page stays
@@ -15,4 +15,4 @@ Fits n = n ≤ 9999
 -- numbers of at most four columns, and few enough to be counted in four
 pub record Listable (xs : List ℕ) : Type 0 where
   pub few : length xs ≤ 9999
-  pub each : All Fits xs
+  pub each : AllByRecursion Fits xs

@@ -5,7 +5,7 @@ use event_set::EventSet;
 use relation::Relation;
 
 #[derive(Clone, Copy)]
-pub(crate) enum Shape {
+pub enum Shape {
     /// Sixteen threads, each in its order, with a step from each event to the next thread's event after it.
     Threads,
     /// Each event before the next.
@@ -23,7 +23,7 @@ pub(crate) enum Shape {
 }
 
 impl Shape {
-    pub(crate) const ALL: [Shape; 7] = [
+    pub const ALL: [Shape; 7] = [
         Shape::Threads,
         Shape::Rising,
         Shape::Falling,
@@ -33,7 +33,7 @@ impl Shape {
         Shape::Both,
     ];
 
-    pub(crate) fn name(self) -> &'static str {
+    pub fn name(self) -> &'static str {
         match self {
             Shape::Threads => "threads",
             Shape::Rising => "rising",
@@ -71,7 +71,7 @@ impl Shape {
     }
 
     /// The relation of this shape on the first `n` events.
-    pub(crate) fn over(self, n: usize) -> Relation {
+    pub fn over(self, n: usize) -> Relation {
         let mut table = Relation::empty();
         let count = n.min(256);
         for a in 0..count {

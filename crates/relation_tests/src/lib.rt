@@ -11,7 +11,7 @@ mod pairs;
 use relation::Relation;
 
 /// The relation with these pairs.
-pub(crate) fn related(pairs: &[(u8, u8)]) -> Relation {
+pub fn related(pairs: &[(u8, u8)]) -> Relation {
     let mut table = Relation::empty();
     for (a, b) in pairs {
         table.insert(*a, *b);
@@ -20,7 +20,7 @@ pub(crate) fn related(pairs: &[(u8, u8)]) -> Relation {
 }
 
 /// The relation with every pair.
-pub(crate) fn full() -> Relation {
+pub fn full() -> Relation {
     let mut table = Relation::empty();
     for a in 0..256usize {
         for b in 0..256usize {

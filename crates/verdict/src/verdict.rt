@@ -1,3 +1,9 @@
+//! The verdict of a judge.
+ghost use Rattle.std.specs.Prelude.{Some};
+ghost use Rattle.verdict.specs.Line.{line};
+
+use std::fmt;
+
 /// What a judge finds.
 #[derive(Clone, Copy, PartialEq, Eq, Debug)]
 pub enum Verdict {
@@ -7,4 +13,19 @@ pub enum Verdict {
     Cycle { order: u8, length: u16 },
     /// No order has a cycle as the placements stand, and no full modification order serves.
     NoPlacement,
+}
+
+impl fmt::Display for Verdict {
+    ghost output = { λ v. Some (line v) };
+
+    fn fmt<W: fmt::Write>(&self, f: &mut fmt::Formatter<W>) -> fmt::Result {
+        match self {
+            Verdict::Allowed => f.write_str("allowed"),
+            Verdict::Cycle { order, length } => write!(
+                f,
+                "forbidden: order {order} has a cycle of {length} events"
+            ),
+            Verdict::NoPlacement => f.write_str("forbidden at every placement"),
+        }
+    }
 }

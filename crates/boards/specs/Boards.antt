@@ -1,5 +1,8 @@
 -- The five models by name and number.
-use Rattle.std.specs.Prelude.{ℕ, cond, Some, None, Option, ◌==◌}
+use Rattle.std.specs.Prelude.{◌≡◌, ℕ, cond, IfOk, Some, None, Option, Result, ◌==◌}
+use Rattle.std.specs.Option.{ok_or}
+use Rattle.event.specs.declared.denial.Denial.{Denial}
+use Rattle.event.specs.declared.denial.Denial.TheVariants.{Range}
 use Rattle.execution.specs.Content.{Content}
 use Rattle.model.specs.Meaning.{Meaning}
 use Rattle.boards.specs.declared.board.Board.{Board}
@@ -9,6 +12,8 @@ use Rattle.boards.specs.C11.{c11}
 use Rattle.boards.specs.Ra.{ra}
 use Rattle.boards.specs.Tso.{tso}
 use Rattle.boards.specs.Sc.{sc}
+use Rattle.boards.specs.Relations.{StepsAreOneOrMore}
+use Rattle.boards.specs.Agreement.{Follows}
 use Rattle.boards.specs.Textbook.{Coherent, C11Consistent, RaConsistent, TsoConsistent, ScConsistent}
 
 -- the model of each number from 0 to 4
@@ -35,3 +40,9 @@ ConsistentUnder C11 = C11Consistent
 ConsistentUnder Ra = RaConsistent
 ConsistentUnder Tso = TsoConsistent
 ConsistentUnder Sc = ScConsistent
+
+-- the choice by a number: its model, which serves just what the textbook calls consistent, or a denial
+pub record Chooses (n : ℕ) (r : Result Board Denial) : Type 0 where
+  pub the_model_of_that_number_or_range : r ≡ ok_or (numbered n) (Range 1)
+  pub serves_exactly_what_the_textbook_calls_consistent : IfOk r (λ b. Follows (meaning_of b) (ConsistentUnder b))
+  pub happens_before_is_one_or_more_steps : StepsAreOneOrMore

@@ -1,10 +1,5 @@
 //! The choice of a model by its number.
-ghost use Rattle.std.specs.Prelude.{◌≡◌, IfOk};
-ghost use Rattle.std.specs.Option.{ok_or};
-ghost use Rattle.event.specs.declared.denial.Denial.TheVariants.{Range};
-ghost use Rattle.boards.specs.Relations.{StepsAreOneOrMore};
-ghost use Rattle.boards.specs.Agreement.{Follows};
-ghost use Rattle.boards.specs.Boards.{numbered, meaning_of, ConsistentUnder};
+ghost use Rattle.boards.specs.Boards.{Chooses, meaning_of};
 ghost use Rattle.boards.specs.OfBoard.{board_rules};
 
 use crate::c11::C11;
@@ -27,13 +22,13 @@ pub enum Board {
     Sc,
 }
 
-impl Board {
-    /// The model of a number from 0 to 4.
-    pub fn numbered(n: u32) -> Result<Board, Denial>
-        ensures the_model_of_that_number_or_range { result ≡ ok_or (numbered n) (Range 1) }
-        ensures serves_exactly_what_the_textbook_calls_consistent { IfOk result (λ b. Follows (meaning_of b) (ConsistentUnder b)) }
-        ensures happens_before_is_one_or_more_steps { StepsAreOneOrMore }
-    {
+/// The model of a number from 0 to 4.
+impl TryFrom<u32> for Board {
+    type Error = Denial;
+
+    ghost try_from_gives = { Chooses };
+
+    fn try_from(n: u32) -> Result<Board, Denial> {
         match n {
             0 => Ok(Board::Coh),
             1 => Ok(Board::C11),

@@ -105,7 +105,7 @@ fn show(rt: &impl Print, table: &Relation) -> io::Result<()> {
 
 /// Each order of the model of that number, and one beyond, laid over a table that held another pair.
 fn show_model(rt: &impl Print, number: u32, graph: &Graph) -> io::Result<()> {
-    match Board::numbered(number) {
+    match Board::try_from(number) {
         Ok(board) => {
             for order in 0..board.orders() + 1 {
                 let mut table = Relation::empty();

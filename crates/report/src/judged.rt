@@ -19,7 +19,7 @@ use verdict::Verdict;
 pub fn judge_recording(recording: &Recording, sheet: &mut [u16]) -> Result<Verdict, Denial>
     ensures judged_by_the_pile_of_its_header { (b : ABoard) → numbered recording.now.header.model ≡ Some b → Lawful (piled recording.now.header.strong recording.now.header.barrier (meaning_of b)) (as_closed (of_closed recording.now.graph)) sheet.old result sheet.new }
 {
-    let board = Board::numbered(u32::from(recording.header.model))?;
+    let board = Board::try_from(u32::from(recording.header.model))?;
     let threads = recording.header.strong;
     if recording.header.barrier {
         recording

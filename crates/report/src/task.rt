@@ -49,7 +49,7 @@ fn print_recording(recording: Recording, page: &mut [u8]) -> Result<usize, Denia
     ensures { (b : ABoard) × (numbered recording.header.model ≡ Some b) × LawfullyPrinted (piled recording.header.strong recording.header.barrier (meaning_of b)) (of_closed recording.graph) page.old result page.new }
 {
     let Recording { header, graph } = recording;
-    let Ok(board) = Board::numbered(u32::from(header.model)) else {
+    let Ok(board) = Board::try_from(u32::from(header.model)) else {
         unreachable()
     };
     if header.barrier {

@@ -43,15 +43,7 @@ impl TryFrom<u32> for Board {
 impl MemoryModel for Board {
     ghost meaning = { meaning_of };
 
-    ghost few = { λ m. (board_rules m).few };
-
-    ghost inside = { λ m. (board_rules m).inside };
-
-    ghost beyond = { λ m. (board_rules m).beyond };
-
-    ghost floor = { λ m. (board_rules m).floor };
-
-    ghost growth = { λ m. (board_rules m).growth };
+    ghost rules = { board_rules };
 
     fn orders(&self) -> usize {
         match self {

@@ -24,15 +24,7 @@ pub struct C11;
 impl MemoryModel for C11 {
     ghost meaning = { λ _. c11 };
 
-    ghost few = { λ m. c11_rules.few };
-
-    ghost inside = { λ m. c11_rules.inside };
-
-    ghost beyond = { λ m. c11_rules.beyond };
-
-    ghost floor = { λ m. c11_rules.floor };
-
-    ghost growth = { λ m. c11_rules.growth };
+    ghost rules = { λ _. c11_rules };
 
     fn orders(&self) -> usize {
         1

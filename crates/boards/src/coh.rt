@@ -17,15 +17,7 @@ pub struct Coh;
 impl MemoryModel for Coh {
     ghost meaning = { λ _. coh };
 
-    ghost few = { λ m. coh_rules.few };
-
-    ghost inside = { λ m. coh_rules.inside };
-
-    ghost beyond = { λ m. coh_rules.beyond };
-
-    ghost floor = { λ m. coh_rules.floor };
-
-    ghost growth = { λ m. coh_rules.growth };
+    ghost rules = { λ _. coh_rules };
 
     fn orders(&self) -> usize {
         1

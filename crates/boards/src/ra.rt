@@ -21,15 +21,7 @@ pub struct Ra;
 impl MemoryModel for Ra {
     ghost meaning = { λ _. ra };
 
-    ghost few = { λ m. ra_rules.few };
-
-    ghost inside = { λ m. ra_rules.inside };
-
-    ghost beyond = { λ m. ra_rules.beyond };
-
-    ghost floor = { λ m. ra_rules.floor };
-
-    ghost growth = { λ m. ra_rules.growth };
+    ghost rules = { λ _. ra_rules };
 
     fn orders(&self) -> usize {
         1

@@ -14,15 +14,7 @@ pub struct Sc;
 impl MemoryModel for Sc {
     ghost meaning = { λ _. sc };
 
-    ghost few = { λ m. sc_rules.few };
-
-    ghost inside = { λ m. sc_rules.inside };
-
-    ghost beyond = { λ m. sc_rules.beyond };
-
-    ghost floor = { λ m. sc_rules.floor };
-
-    ghost growth = { λ m. sc_rules.growth };
+    ghost rules = { λ _. sc_rules };
 
     fn orders(&self) -> usize {
         1

@@ -23,15 +23,7 @@ pub struct Tso;
 impl MemoryModel for Tso {
     ghost meaning = { λ _. tso };
 
-    ghost few = { λ m. tso_rules.few };
-
-    ghost inside = { λ m. tso_rules.inside };
-
-    ghost beyond = { λ m. tso_rules.beyond };
-
-    ghost floor = { λ m. tso_rules.floor };
-
-    ghost growth = { λ m. tso_rules.growth };
+    ghost rules = { λ _. tso_rules };
 
     fn orders(&self) -> usize {
         2

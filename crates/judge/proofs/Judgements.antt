@@ -3,7 +3,7 @@ use Rattle.std.proofs.Common.{◌≡◌, ℕ, ◌<◌, List, length, None, Ok, R
 use Rattle.event.specs.declared.denial.Denial.{Denial}
 use Rattle.execution.specs.Content.{Content}
 use Rattle.cycles.specs.Cycles.{Acyclic}
-use Rattle.model.specs.Meaning.{Meaning, Few, Inside, Beyond, Floor, Growth}
+use Rattle.model.specs.Meaning.{Meaning, Rules}
 use Rattle.verdict.specs.declared.verdict.Verdict.{Verdict}
 use Rattle.verdict.specs.declared.verdict.Verdict.TheVariants.{Allowed as is_allowed}
 use Rattle.verdict.specs.Places.{PlacedFirst}
@@ -28,6 +28,6 @@ module _ (m : Meaning) (s : State) (before : List ℕ) (passed : judge_denial s 
       (judged_allowed m s before passed h shown.lists first shown.listed.as_many shown.listed.listed)
 
 -- a right judge by a model that keeps the rules
-pub lawful : (m : Meaning) → Few m → Inside m → Beyond m → Floor m → Growth m → (s : State) (before : List ℕ) (result : Result Verdict Denial) (after : List ℕ)
+pub lawful : (m : Meaning) → Rules m → (s : State) (before : List ℕ) (result : Result Verdict Denial) (after : List ℕ)
     → Judged m s before result after → Lawful m s before result after
-lawful m few inside beyond floor growth = calls_carry_on.judges m (record { few = few; inside = inside; beyond = beyond; floor = floor; growth = growth })
+lawful = calls_carry_on.judges

@@ -1,9 +1,8 @@
 -- The known verdicts, each by computing.
 use Rattle.std.proofs.Common.{ℕ, List, [], ◌∷◌, refl}
 use Rattle.event_set.specs.Sets.{bit}
-use Rattle.model.specs.Meaning.{Meaning, Rules}
-use Rattle.model.specs.Layers.{within_threads, strong}
-use Rattle.model.specs.Layered.{layer_inside, layer_beyond, layer_floor, layer_growth, within_threads_grows}
+use Rattle.model.specs.Layers.{within_threads}
+use Rattle.model.specs.Layered.{layer_rules, within_threads_grows}
 use Rattle.boards.specs.OfCoh.{coh_rules}
 use Rattle.boards.specs.OfC11.{c11_rules}
 use Rattle.boards.specs.OfRa.{ra_rules}
@@ -11,15 +10,6 @@ use Rattle.boards.specs.OfTso.{tso_rules}
 use Rattle.boards.specs.OfSc.{sc_rules}
 use Rattle.known.specs.Cases.{KnownVerdicts}
 use Rattle.known.proofs.Deciding.{known_by}
-
-strong_rules : (threads : ℕ) (m : Meaning) → Rules m → Rules (strong threads m)
-strong_rules threads m rules = record {
-  few = rules.few;
-  inside = layer_inside (within_threads threads) m (within_threads_grows threads) rules.inside;
-  beyond = layer_beyond (within_threads threads) m rules.beyond;
-  floor = layer_floor (within_threads threads) m rules.floor;
-  growth = layer_growth (within_threads threads) m (within_threads_grows threads) rules.growth;
-}
 
 -- the two open writes, and where each is placed
 places_first : List (ℕ × ℕ)
@@ -41,7 +31,7 @@ known_verdicts =
     and known_by _ c11_rules [] tt tt (tt, tt, tt)
     and known_by _ coh_rules [] tt tt (tt, refl, refl)
     and known_by _ ra_rules [] tt tt (tt, tt, tt)
-    and known_by _ (strong_rules 3 _ coh_rules) [] tt tt (tt, tt, tt)
+    and known_by _ (layer_rules (within_threads 3) _ (within_threads_grows 3) coh_rules) [] tt tt (tt, tt, tt)
     and known_by _ coh_rules [] tt tt (tt, tt, tt)
     and known_by _ ra_rules [] tt tt (tt, tt, tt)
     and known_by _ coh_rules places_first tt tt (tt, tt)

@@ -6,40 +6,36 @@ use Rattle.execution.specs.Content.{Content, thread_of, label_of, po}
 use Rattle.execution.proofs.Tests.{both, left, right, either}
 use Rattle.relation.specs.declared.table.Relation.{Relation}
 use Rattle.relation.specs.Table.{holds, Is}
-use Rattle.model.specs.Meaning.{Meaning, Inside, Beyond, Floor, Growth}
+use Rattle.model.specs.Meaning.{Meaning, Rules}
 use Rattle.model.specs.Layers.{layer, strong_fence, fenced, has_thread, within_threads}
 use Rattle.model.specs.Either.{or_left, or_right}
 use Rattle.model.specs.Growing.{Grows, part, po_grows, label_within, thread_within}
 
-module _ (r : Content → ℕ → ℕ → Bool) (m : Meaning) where
-  pub layer_inside : Grows r → Inside m → Inside (layer r m)
-  layer_inside p below g s n a b h = elim (either (m.pairs g n a b) _ h) [
-    | inl x ↦ below g s n a b x
+pub layer_rules : (r : Content → ℕ → ℕ → Bool) (m : Meaning) → Grows r → Rules m → Rules (layer r m)
+layer_rules r m p below = record {
+  few = below.few;
+  inside = λ g s n a b h. elim (either (m.pairs g n a b) _ h) [
+    | inl x ↦ below.inside g s n a b x
     | inr y ↦ p.inside g s a b (right (nat_lt n m.orders) _ y)
-  ]
-
-  pub layer_beyond : Beyond m → Beyond (layer r m)
-  layer_beyond below g s n a b l h = elim (either (m.pairs g n a b) _ h) [
-    | inl x ↦ below g s n a b l x
+  ];
+  beyond = λ g s n a b l h. elim (either (m.pairs g n a b) _ h) [
+    | inl x ↦ below.beyond g s n a b l x
     | inr y ↦ omega (arith, ltb→lt n m.orders (left (nat_lt n m.orders) _ y))
-  ]
-
-  pub layer_floor : Floor m → Floor (layer r m)
-  layer_floor below g s = let f = below g s in record {
+  ];
+  floor = λ g s. let f = below.floor g s in record {
     by_po = λ a b x y. or_left (m.pairs g 0 a b) _ (f.by_po a b x y);
     by_rf = λ a b x. or_left (m.pairs g 0 a b) _ (f.by_rf a b x);
     by_mo = λ a b x. or_left (m.pairs g 0 a b) _ (f.by_mo a b x);
     by_rb = λ a b x. or_left (m.pairs g 0 a b) _ (f.by_rb a b x);
-  }
-
-  pub layer_growth : Grows r → Growth m → Growth (layer r m)
-  layer_growth p below g h s t i n a b x = elim (either (m.pairs g n a b) _ x) [
-    | inl y ↦ or_left (m.pairs h n a b) _ (below g h s t i n a b y)
+  };
+  growth = λ g h s t i n a b x. elim (either (m.pairs g n a b) _ x) [
+    | inl y ↦ or_left (m.pairs h n a b) _ (below.growth g h s t i n a b y)
     | inr y ↦
         let few = left (nat_lt n m.orders) _ y in
         let more = p.grows g h s t i a b (right (nat_lt n m.orders) _ y) in
         or_right (m.pairs h n a b) _ (both (nat_lt n m.orders) _ few more)
-  ]
+  ];
+}
 
 pub fenced_grows : Grows fenced
 fenced_grows = part po (λ g a b. strong_fence (label_of g a) || strong_fence (label_of g b)) po_grows

@@ -3,7 +3,7 @@ ghost use Rattle.std.specs.Prelude.{◌≡◌, ℕ, Bool};
 ghost use Rattle.execution.specs.Content.{Content};
 ghost use Rattle.graph.specs.View.{view};
 ghost use Rattle.relation.specs.Table.{Is};
-ghost use Rattle.model.specs.Meaning.{Meaning, Few, Inside, Beyond, Floor, Growth};
+ghost use Rattle.model.specs.Meaning.{Meaning, Rules};
 
 use graph::Graph;
 use relation::Relation;
@@ -22,15 +22,7 @@ pub trait Model {
     fn lay(&self, graph: &Graph, order: usize, table: &mut Relation)
         ensures lays_exactly_the_pairs { Is table.new ((meaning self.now).pairs (view graph.now) order) };
 
-    ghost few: { (m : Self) → Few (meaning m) };
-
-    ghost inside: { (m : Self) → Inside (meaning m) };
-
-    ghost beyond: { (m : Self) → Beyond (meaning m) };
-
-    ghost floor: { (m : Self) → Floor (meaning m) };
-
-    ghost growth: { (m : Self) → Growth (meaning m) };
+    ghost rules: { (m : Self) → Rules (meaning m) };
 }
 
 /// A model that also tells which events happen before which.

@@ -10,8 +10,7 @@ use Rattle.execution.specs.Sound.{Sound}
 use Rattle.recording.specs.Headings.{Heading}
 use Rattle.model.specs.Meaning.{Meaning, Rules}
 use Rattle.model.specs.Layers.{layer, fenced, within_threads}
-use Rattle.model.specs.Growing.{Grows}
-use Rattle.model.specs.Layered.{layer_inside, layer_beyond, layer_floor, layer_growth, fenced_grows, within_threads_grows}
+use Rattle.model.specs.Layered.{layer_rules, fenced_grows, within_threads_grows}
 use Rattle.boards.specs.declared.board.Board.{Board}
 use Rattle.boards.specs.Boards.{numbered, meaning_of}
 use Rattle.boards.specs.OfBoard.{board_rules}
@@ -145,15 +144,6 @@ told_fits Serves before r after kept short long = elim (cases_lt (length before)
       let fits : length t.text ≤ length before = omega (arith, kept, ap length t.page, length-append t.text (drop (length t.text) before)) in
       subst (λ (x : Result ℕ Denial). IfOk x (λ n. n ≤ length before)) (sym t.returned) fits
 ]
-
-layer_rules : (r : Content → ℕ → ℕ → Bool) (m : Meaning) → Grows r → Rules m → Rules (layer r m)
-layer_rules r m grows rules = record {
-  few = rules.few;
-  inside = layer_inside r m grows rules.inside;
-  beyond = layer_beyond r m rules.beyond;
-  floor = layer_floor r m rules.floor;
-  growth = layer_growth r m grows rules.growth;
-}
 
 pile_rules : (threads : ℕ) (barriers : Bool) (m : Meaning) → Rules m → Rules (piled threads barriers m)
 pile_rules threads true m rules = layer_rules (within_threads threads) (layer fenced m) (within_threads_grows threads) (layer_rules fenced m fenced_grows rules)

@@ -9,8 +9,7 @@ ghost use Rattle.std.specs.Prelude.{◌||◌};
 ghost use Rattle.graph.specs.View.{view};
 ghost use Rattle.relation.specs.Table.{holds, Is};
 ghost use Rattle.threefold.specs.Threefold.{coherence, threefold};
-ghost use Rattle.threefold.specs.Kept.{order_grows};
-ghost use Rattle.threefold.specs.Kept;
+ghost use Rattle.threefold.specs.Kept.{threefold_rules};
 
 use graph::Graph;
 use model::Model as MemoryModel;
@@ -27,15 +26,7 @@ pub struct Threefold {}
 impl MemoryModel for Threefold {
     ghost meaning = { λ _. threefold };
 
-    ghost few = { λ m. Kept.few };
-
-    ghost inside = { λ m g s k. (order_grows k).inside g s };
-
-    ghost beyond = { λ m. Kept.beyond };
-
-    ghost floor = { λ m. Kept.floor };
-
-    ghost growth = { λ m g h s t i k. (order_grows k).grows g h s t i };
+    ghost rules = { λ _. threefold_rules };
 
     fn orders(&self) -> usize {
         3

@@ -6,7 +6,7 @@ ghost use Rattle.event_set.specs.Sets.{HasJust};
 ghost use Rattle.relation.specs.Table.{holds, Is};
 ghost use Rattle.model.specs.Meaning.{Over};
 ghost use Rattle.model.specs.Layers.{strong_fence, fenced, barrier, Piles};
-ghost use Rattle.model.specs.Layered.{layer_inside, fenced_grows, layer_beyond, layer_floor, layer_growth};
+ghost use Rattle.model.specs.Layered.{layer_rules, fenced_grows};
 
 use crate::interface::Model as MemoryModel;
 use crate::laying::program_order::add_program_order;
@@ -34,15 +34,7 @@ impl<M: MemoryModel> Barrier<M> {
 impl<M: MemoryModel> MemoryModel for Barrier<M> {
     ghost meaning = { λ m. barrier (M.Model.meaning m.below) };
 
-    ghost few = { λ m. M.Model.few m.below };
-
-    ghost inside = { λ m. layer_inside _ _ fenced_grows (M.Model.inside m.below) };
-
-    ghost beyond = { λ m. layer_beyond _ _ (M.Model.beyond m.below) };
-
-    ghost floor = { λ m. layer_floor fenced (M.Model.meaning m.below) (M.Model.floor m.below) };
-
-    ghost growth = { λ m. layer_growth _ _ fenced_grows (M.Model.growth m.below) };
+    ghost rules = { λ m. layer_rules fenced _ fenced_grows (M.Model.rules m.below) };
 
     fn orders(&self) -> usize {
         self.below.orders()

@@ -4,7 +4,7 @@ ghost use Rattle.graph.specs.View.{view};
 ghost use Rattle.relation.specs.Table.{holds, Is};
 ghost use Rattle.model.specs.Meaning.{Over};
 ghost use Rattle.model.specs.Layers.{has_thread, within_threads, strong, Piles};
-ghost use Rattle.model.specs.Layered.{layer_inside, within_threads_grows, layer_beyond, layer_floor, layer_growth};
+ghost use Rattle.model.specs.Layered.{layer_rules, within_threads_grows};
 
 use crate::interface::Model as MemoryModel;
 use crate::laying::program_order::add_thread_order;
@@ -32,15 +32,7 @@ impl<M: MemoryModel> Strong<M> {
 impl<M: MemoryModel> MemoryModel for Strong<M> {
     ghost meaning = { λ m. strong m.threads (M.Model.meaning m.below) };
 
-    ghost few = { λ m. M.Model.few m.below };
-
-    ghost inside = { λ m. layer_inside _ _ (within_threads_grows m.threads) (M.Model.inside m.below) };
-
-    ghost beyond = { λ m. layer_beyond _ _ (M.Model.beyond m.below) };
-
-    ghost floor = { λ m. layer_floor (within_threads m.threads) (M.Model.meaning m.below) (M.Model.floor m.below) };
-
-    ghost growth = { λ m. layer_growth _ _ (within_threads_grows m.threads) (M.Model.growth m.below) };
+    ghost rules = { λ m. layer_rules (within_threads m.threads) _ (within_threads_grows m.threads) (M.Model.rules m.below) };
 
     fn orders(&self) -> usize {
         self.below.orders()

@@ -5,7 +5,6 @@ use Rattle.event.specs.declared.denial.Denial.{Denial}
 use Rattle.graph.specs.declared.tables.Graph.{Graph}
 use Rattle.graph.specs.View.{view, of_closed}
 use Rattle.graph.proofs.Soundness.{sound_of}
-use Rattle.model.specs.Meaning.{Rules}
 use Rattle.verdict.specs.Answers.{cyclic, no_placement}
 use Rattle.report.specs.Texts.{Written}
 use Rattle.report.specs.Flat.{from_sheet}
@@ -15,12 +14,6 @@ use Rattle.report.proofs.Lengths.{listable_take}
 use Rattle.report.proofs.Reporting.{one_report, reports_fit}
 use Rattle.report.proofs.Promised.{zeros_long, zeros_fit, printed_denied, printed_short, printed_allowed, printed_cycle, printed_no_placement, cycle_fits, sheet_listable}
 use Rattle.report.proofs.printing.print.Goals as goal
-use Rattle.report.proofs.printing.print.Given.{Over}
-
-rules : (g : Over) → (x : g.row.M.Denot) → Rules (g.M.Model.meaning x)
-rules g x =
-    let laws = g.met.M.Model in
-    record { few = laws.few x; inside = laws.inside x; beyond = laws.beyond x; floor = laws.floor x; growth = laws.growth x }
 
 pub returns-in_err-verdict : goal.returns-in_err-verdict
 returns-in_err-verdict g c =
@@ -53,10 +46,10 @@ write_allowed-requires g c =
     let m = g.M.Model.meaning x in
     let many : length c.judge.new.sheet ≡ 1280 = omega (arith, c.judge.auto.sheet, zeros_long) in
     record {
-      few = omega (arith, c.orders.ensures.as_many_as_it_means, (g.met.M.Model.few x).1);
+      few = omega (arith, c.orders.ensures.as_many_as_it_means, (g.met.M.Model.rules x).few.1);
       sheet_is_long = omega (arith, many);
       listable = sheet_listable m (of_closed c.args.graph) c.args.page.now (replicate 1280 0) c.judge.new.sheet zeros_long c.in_ok-verdict.verdict
-          c.in_ok-verdict.ensures.judged_rightly_and_the_law_holds_of_every_run_that_makes_this_graph (rules g x) (sound_of c.args.graph.graph) (zeros_fit 1280) many;
+          c.in_ok-verdict.ensures.judged_rightly_and_the_law_holds_of_every_run_that_makes_this_graph (g.met.M.Model.rules x) (sound_of c.args.graph.graph) (zeros_fit 1280) many;
       page_is_long = c.if-page-lt-PAGE.false;
     }
 
@@ -64,7 +57,7 @@ pub slice_bounds-cycle-end : goal.slice_bounds-cycle-end
 slice_bounds-cycle-end g c =
     let x = c.args.model.now in
     let fits = cycle_fits (g.M.Model.meaning x) (of_closed c.args.graph) c.args.page.now (replicate 1280 0) c.judge.new.sheet zeros_long c.in_ok-verdict.verdict
-    c.in_ok-verdict.ensures.judged_rightly_and_the_law_holds_of_every_run_that_makes_this_graph c.in-Cycle.order c.in-Cycle.length c.in-Cycle.is (rules g x) (sound_of c.args.graph.graph) in
+    c.in_ok-verdict.ensures.judged_rightly_and_the_law_holds_of_every_run_that_makes_this_graph c.in-Cycle.order c.in-Cycle.length c.in-Cycle.is (g.met.M.Model.rules x) (sound_of c.args.graph.graph) in
     let within : c.in-Cycle.length ≤ length c.judge.new.sheet = omega (arith, fits.1, c.judge.auto.sheet, zeros_long) in
     within
 
@@ -75,10 +68,10 @@ write_cycle-requires g c =
     let lawful = c.in_ok-verdict.ensures.judged_rightly_and_the_law_holds_of_every_run_that_makes_this_graph in
     let many : length c.judge.new.sheet ≡ 1280 = omega (arith, c.judge.auto.sheet, zeros_long) in
     let fits = cycle_fits m (of_closed c.args.graph) c.args.page.now (replicate 1280 0) c.judge.new.sheet zeros_long c.in_ok-verdict.verdict
-    lawful c.in-Cycle.order c.in-Cycle.length c.in-Cycle.is (rules g x) (sound_of c.args.graph.graph) in
-    let sheet = sheet_listable m (of_closed c.args.graph) c.args.page.now (replicate 1280 0) c.judge.new.sheet zeros_long c.in_ok-verdict.verdict lawful (rules g x) (sound_of c.args.graph.graph) (zeros_fit 1280) many in
+    lawful c.in-Cycle.order c.in-Cycle.length c.in-Cycle.is (g.met.M.Model.rules x) (sound_of c.args.graph.graph) in
+    let sheet = sheet_listable m (of_closed c.args.graph) c.args.page.now (replicate 1280 0) c.judge.new.sheet zeros_long c.in_ok-verdict.verdict lawful (g.met.M.Model.rules x) (sound_of c.args.graph.graph) (zeros_fit 1280) many in
     record {
-      order_fits = omega (arith, fits.0, (g.met.M.Model.few x).1);
+      order_fits = omega (arith, fits.0, (g.met.M.Model.rules x).few.1);
       short = omega (arith, length-take-le (c.in-Cycle.length - 0) c.judge.new.sheet (omega (arith, fits.1, many)), fits.1);
       listable = listable_take (c.in-Cycle.length - 0) c.judge.new.sheet sheet;
       page_is_long = c.if-page-lt-PAGE.false;

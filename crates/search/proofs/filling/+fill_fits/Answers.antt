@@ -6,7 +6,6 @@ use Rattle.execution.proofs.Tests.{left}
 use Rattle.execution.proofs.Among.{write_among}
 use Rattle.graph.proofs.Soundness.{sound_of}
 use Rattle.verdict.proofs.Filling.{nothing_left, left_out}
-use Rattle.search.proofs.Kept.{rules_of}
 use Rattle.search.proofs.Left.{opens_from, fewer_placed, fewer_left_out}
 use Rattle.search.proofs.Walking.{lowest, none_left, tried_one_more, found_first, fails_at_once, fails_further_on, none_tells, found_tells}
 use Rattle.search.proofs.filling.+fill_fits.Goals as goal
@@ -46,17 +45,15 @@ fill-fits-requires g t c κs within =
 pub fill-returns-then-not-fits : goal.fill-returns-then-not-fits
 fill-returns-then-not-fits g t c =
     let m = c.args.model.now in
-    let laws = g.met.M.Model in
     let next = c.in-Some.ensures.lowest_open_write_from_there in
     λ some. c.if-not-fits.ensures
-    (left_out (g.M.Model.meaning m) (rules_of g.M.Model.meaning laws.few laws.inside laws.beyond laws.floor laws.growth m)
+    (left_out (g.M.Model.meaning m) (g.met.M.Model.rules m)
     (view c.args.graph.now) (sound_of c.args.graph.now) c.args.from _ (omega (arith, next.0)) some)
 
 pub fill-loop-after-preserved : goal.fill-loop-after-preserved
 fill-loop-after-preserved g t c =
     let x = c.args.model.now in
     let m = g.M.Model.meaning x in
-    let laws = g.met.M.Model in
     let s = sound_of c.args.graph.now in
     let v = view c.args.graph.now in
     let it = ap (λ (xs : List ℕ). get_or xs c.loop-after.after-index 0) c.placed-after-items.ensures.placed_writes_in_order in
@@ -66,7 +63,7 @@ fill-loop-after-preserved g t c =
           fails_further_on m c.args.from v s c.in-Some.write _ (view w.in-Some-placed_after.tried) w.in-Some-placed_after.ensures.1 w.in_default-fill.ensures
       | fill-in_default-placed_after w ↦
           fails_at_once m c.args.from v s c.in-Some.write _
-          (rules_of g.M.Model.meaning laws.few laws.inside laws.beyond laws.floor laws.growth x)
+          (g.met.M.Model.rules x)
           w.in_default-placed_after.ensures
     ])
 
@@ -97,10 +94,9 @@ fits-returns-then-fits g t c =
 pub fits-returns-else-fits : goal.fits-returns-else-fits
 fits-returns-else-fits g t c =
     let m = c.args.model.now in
-    let laws = g.met.M.Model in
     let next = c.in-Some.ensures.lowest_open_write_from_there in
     none_tells c.fits.result _ c.if-fits.false (λ some. c.if-fits.ensures
-    (left_out (g.M.Model.meaning m) (rules_of g.M.Model.meaning laws.few laws.inside laws.beyond laws.floor laws.growth m)
+    (left_out (g.M.Model.meaning m) (g.met.M.Model.rules m)
     (view c.args.graph.now) (sound_of c.args.graph.now) c.args.from _ (omega (arith, next.0)) some))
 
 pub fits-returns-in-None : goal.fits-returns-in-None

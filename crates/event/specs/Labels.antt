@@ -1,5 +1,7 @@
 -- What an event does: labels, what each carries, and the modes that each may have.
-use Rattle.std.specs.Prelude.{ℕ, Bool, true, false, cond, ◌&&◌, ◌||◌, is_some, Some, None, Option, ◌==◌, nat_le}
+use Rattle.std.specs.Prelude.{ℕ, Bool, true, false, cond, ◌&&◌, ◌||◌, List, is_some, Some, None, Ok, Err, Option, Result, ◌==◌, nat_le, slice_index}
+use Rattle.event.specs.declared.denial.Denial.{Denial}
+use Rattle.event.specs.declared.denial.Denial.TheVariants.{Mode as no_such_mode}
 use Rattle.event.specs.declared.event.Mode.{Mode}
 use Rattle.event.specs.declared.event.Mode.TheVariants.{NonAtomic, Relaxed, Acquire, Release, AcquireRelease, SeqCst}
 use Rattle.event.specs.declared.event.Kind.{Kind}
@@ -24,12 +26,24 @@ numbered_mode n =
     cond (n == 0) NonAtomic (cond (n == 1) Relaxed (cond (n == 2) Acquire (
     cond (n == 3) Release (cond (n == 4) AcquireRelease SeqCst))))
 
+-- the mode of a number from 0 to 5
+abbrev pub mode_from : ℕ → Result Mode Denial
+mode_from n = cond (nat_le n 5) (Ok (numbered_mode n)) (Err no_such_mode)
+
 -- the mode numbers that a kind of event may have
 abbrev pub allows : Kind → ℕ → Bool
 allows a_read n = nat_le n 2 || n == 5
 allows a_write n = nat_le n 1 || (n == 3 || n == 5)
 allows an_update n = nat_le 1 n && nat_le n 5
 allows a_fence n = nat_le 2 n && nat_le n 5
+
+-- the mode of a number that a kind of event may have
+abbrev pub allowed_mode : Kind → ℕ → Result Mode Denial
+allowed_mode k n = cond (allows k n) (Ok (numbered_mode n)) (Err no_such_mode)
+
+-- the numbers of an entry: thread, location, value read, value written and mode
+abbrev pub arguments_from : List ℕ → Arguments
+arguments_from ns = record { thread = slice_index ns 0; location = slice_index ns 1; read = slice_index ns 2; written = slice_index ns 3; mode = slice_index ns 4 }
 
 -- whether events of a kind access a location
 abbrev pub accesses : Kind → Bool

@@ -1,7 +1,9 @@
 //! Events: what a thread did, and how strongly that orders.
 
 ghost use Rattle.std.specs.Prelude.{◌≡◌};
-ghost use Rattle.event.specs.Labels.{allows, accesses, mode_of, is_read, is_write, agree, one_location, location, value_read, value_written};
+ghost use Rattle.event.specs.Labels.{mode_from, allows, allowed_mode, arguments_from, accesses, mode_of, is_read, is_write, agree, one_location, location, value_read, value_written};
+
+use crate::denial::Denial;
 
 /// How strongly an access or a fence orders.
 #[derive(Clone, Copy, PartialEq, Eq)]
@@ -12,6 +14,24 @@ pub enum Mode {
     Release,
     AcquireRelease,
     SeqCst,
+}
+
+impl TryFrom<u32> for Mode {
+    type Error = Denial;
+
+    ghost try_from_gives = { λ number r. r ≡ mode_from number };
+
+    fn try_from(number: u32) -> Result<Mode, Denial> {
+        match number {
+            0 => Ok(Mode::NonAtomic),
+            1 => Ok(Mode::Relaxed),
+            2 => Ok(Mode::Acquire),
+            3 => Ok(Mode::Release),
+            4 => Ok(Mode::AcquireRelease),
+            5 => Ok(Mode::SeqCst),
+            _ => Err(Denial::Mode),
+        }
+    }
 }
 
 #[derive(Clone, Copy)]
@@ -62,6 +82,20 @@ pub struct Arguments {
     pub mode: u32,
 }
 
+impl From<[u32; 5]> for Arguments {
+    ghost from_gives = { λ numbers r. r ≡ arguments_from numbers };
+
+    fn from([thread, location, read, written, mode]: [u32; 5]) -> Arguments {
+        Arguments {
+            thread,
+            location,
+            read,
+            written,
+            mode,
+        }
+    }
+}
+
 impl Kind {
     /// Whether events of this kind access a location.
     pub fn accesses(self) -> bool
@@ -77,11 +111,20 @@ impl Kind {
     pub fn allows(self, mode: u32) -> bool
         ensures as_the_rules_allow { result ≡ allows self mode }
     {
-        match self {
-            Kind::Read => mode <= 2 || mode == 5,
-            Kind::Write => mode <= 1 || mode == 3 || mode == 5,
-            Kind::Update => mode >= 1 && mode <= 5,
-            Kind::Fence => mode >= 2 && mode <= 5,
+        self.mode(mode).is_ok()
+    }
+
+    /// The mode of that number, if events of this kind may have it.
+    pub fn mode(self, number: u32) -> Result<Mode, Denial>
+        ensures that_mode_if_the_rules_allow_it { result ≡ allowed_mode self number }
+    {
+        let mode = Mode::try_from(number)?;
+        match (self, mode) {
+            (Kind::Read, Mode::Release | Mode::AcquireRelease)
+            | (Kind::Write, Mode::Acquire | Mode::AcquireRelease)
+            | (Kind::Update, Mode::NonAtomic)
+            | (Kind::Fence, Mode::NonAtomic | Mode::Relaxed) => Err(Denial::Mode),
+            _ => Ok(mode),
         }
     }
 }
@@ -148,19 +191,15 @@ impl Label {
     pub fn shares_location(self, other: Label) -> bool
         ensures both_access_one_location { result ≡ one_location self other }
     {
-        match (self.location(), other.location()) {
-            (Some(a), Some(b)) => a == b,
-            _ => false,
-        }
+        self.location()
+            .is_some_and(|here| other.location() == Some(here))
     }
 
     /// Whether the other reads the value that this one writes.
     pub fn writes_value_of(self, read: Label) -> bool
         ensures written_is_read { result ≡ agree (value_written self) (value_read read) }
     {
-        match (self.value_written(), read.value_read()) {
-            (Some(a), Some(b)) => a == b,
-            _ => false,
-        }
+        self.value_written()
+            .is_some_and(|written| read.value_read() == Some(written))
     }
 }

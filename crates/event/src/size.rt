@@ -1,7 +1,8 @@
 //! Sizes: the numbers of threads and locations that a graph may have.
 
-ghost use Rattle.std.specs.Prelude.{◌≡◌, ◌≤◌, cond, ◌&&◌, Some, None, MatchResult};
-ghost use Rattle.event.specs.Sizes.{size_denial};
+ghost use Rattle.std.specs.Prelude.{◌≡◌, ◌≤◌, cond, Some, None, Ok, Err, MatchResult};
+ghost use Rattle.event.specs.declared.denial.Denial.TheVariants.{Range};
+ghost use Rattle.event.specs.Sizes.{one_to_sixteen, size_denial};
 
 use crate::denial::Denial;
 
@@ -20,15 +21,9 @@ impl Size {
     pub fn new(threads: u32, locations: u32) -> Result<Size, Denial>
         ensures that_size_or_the_first_out_of_range { MatchResult result (λ s. (size_denial threads locations ≡ None) × (s.threads ≡ threads) × (s.locations ≡ locations)) (λ d. size_denial threads locations ≡ Some d) }
     {
-        if threads < 1 || threads > 16 {
-            return Err(Denial::Range(1));
-        }
-        if locations < 1 || locations > 16 {
-            return Err(Denial::Range(2));
-        }
         Ok(Size {
-            threads: threads as u8,
-            locations: locations as u8,
+            threads: one_to_sixteen(threads, 1)?,
+            locations: one_to_sixteen(locations, 2)?,
         })
     }
 
@@ -42,5 +37,15 @@ impl Size {
         ensures its_locations { result ≡ self.locations }
     {
         self.locations
+    }
+}
+
+/// The number where it is in range, and else the denial of its position.
+fn one_to_sixteen(number: u32, position: u8) -> Result<u8, Denial>
+    ensures { result ≡ cond (one_to_sixteen number) (Ok number) (Err (Range position)) }
+{
+    match u8::try_from(number) {
+        Ok(few @ 1..=16) => Ok(few),
+        _ => Err(Denial::Range(position)),
     }
 }

@@ -1,14 +1,12 @@
 -- A set by its words: what lies past event 255, what a write of one word does, and how it is walked.
-use Rattle.std.proofs.Common.{◌≡◌, ℕ, ◌+◌, ◌-◌, ◌*◌, ◌/◌, ◌%◌, ◌^◌, ◌<◌, ◌≤◌, Bool, true, false, cond, not, ◌&&◌, T, eqb, ltb, List, length, get_or, set, replicate, sym, refl, ap, ◌∙◌, subst, inl, inr, arith}
-use lib.Bits.{bit_and}
-use lib.Count.{count_trailing_zeros}
+use Rattle.std.proofs.Common.{◌≡◌, ℕ, ◌+◌, ◌*◌, ◌/◌, ◌%◌, ◌<◌, ◌≤◌, Bool, true, false, cond, not, ◌&&◌, T, eqb, ltb, List, length, get_or, set, replicate, sym, refl, ap, ◌∙◌, inl, inr, arith}
 use Rattle.std.proofs.lemmas.List.{get_or-set_same, get_or-set_other, get_or-replicate}
 use Rattle.std.proofs.lemmas.List.Sums.{sum_by-set}
-use Rattle.std.proofs.lemmas.Bool.{cases_eq, cases_lt, eq-eqb, ne_eqb, le-ltb}
+use Rattle.std.proofs.lemmas.Bool.{cases_eq, cases_lt, eq-eqb, ne_eqb, lt-ltb, le-ltb}
 use Rattle.std.proofs.lemmas.Bool.Decides.{nat_tests}
 use Rattle.event_set.specs.Sets.{bit, has, weight}
 use Rattle.event_set.specs.declared.event_set.EventSet.{EventSet}
-use Rattle.event_set.proofs.Digits.{bit_zero, bit_of_and, Taken, lowest}
+use Rattle.event_set.proofs.Digits.{bit_zero, Taken}
 
 -- the set of the words ws
 abbrev pub events : List ℕ → EventSet
@@ -63,6 +61,12 @@ has_no_word ws i x h z =
     has_at ws (x / 64) x refl ∙ ap (λ n. ltb x 256 && bit n (x % 64)) (z (x / 64) h)
     ∙ none_under (ltb x 256) (bit 0 (x % 64)) (bit_zero (x % 64))
 
+pub no_word : (ws : List ℕ) → ((k : ℕ) → k < 4 → get_or ws k 0 ≡ 0) → (x : ℕ) → has (events ws) x ≡ false
+no_word ws z x = elim (cases_lt x 256) [
+  | inl l ↦ has_no_word ws 4 x (omega arith) z
+  | inr h ↦ has_outside (events ws) x h
+]
+
 module _ (ws : List ℕ) (i t v : ℕ) (fits : i < length ws) (few : i < 4) (low : t < 64) (r : Taken (get_or ws i 0) t v) where
   pub has_taken : has (events ws) (64 * i + t) ≡ true
   has_taken =
@@ -91,37 +95,12 @@ pub weight_less : (ws : List ℕ) (i v : ℕ) → i < length ws → v < get_or w
 unfolding weight
 weight_less ws i v h l = let e = sum_by-set (λ (x : ℕ). x) ws i v 0 h in omega arith
 
--- words that have a digit in common tell an event of both sets
-pub common_event : (ws os : List ℕ) (i : ℕ) → i < 4 → 0 < bit_and (get_or ws i 0) (get_or os i 0) → bit_and (get_or ws i 0) (get_or os i 0) < 2 ^ 64
-    → (x : ℕ) × T (has (events ws) x) × T (has (events os) x)
-common_event ws os i few some fits = (64 * i + t, subst T (sym here) tt, subst T (sym there) tt)
-  where
-    t : ℕ
-    t = count_trailing_zeros 64 (bit_and (get_or ws i 0) (get_or os i 0))
-
-    low : (t < 64) × Taken (bit_and (get_or ws i 0) (get_or os i 0)) t (bit_and (bit_and (get_or ws i 0) (get_or os i 0)) (bit_and (get_or ws i 0) (get_or os i 0) - 1))
-    low = lowest 64 (bit_and (get_or ws i 0) (get_or os i 0)) some fits
-
-    digits : (bit (get_or ws i 0) t && bit (get_or os i 0) t) ≡ true
-    digits = sym (bit_of_and (get_or ws i 0) (get_or os i 0) t) ∙ low.1.is_set
-
-    has_digit : (vs : List ℕ) → bit (get_or vs i 0) t ≡ true → has (events vs) (64 * i + t) ≡ true
-    has_digit vs e =
-        let small = low.0 in
-        let at = has_at vs i (64 * i + t) (omega arith) in
-        let digit = ap (λ n. bit (get_or vs i 0) n) (let e : (64 * i + t) % 64 ≡ t = omega arith in e) in
-        grind (arith, nat_tests)
-
-    here : has (events ws) (64 * i + t) ≡ true
-    here = has_digit ws (let d = digits in grind arith)
-
-    there : has (events os) (64 * i + t) ≡ true
-    there = has_digit os (let d = digits in grind arith)
-
-pub no_common_event : (ws os : List ℕ) → ((k : ℕ) → k < 4 → bit_and (get_or ws k 0) (get_or os k 0) ≡ 0) → (x : ℕ) → T (has (events ws) x) → T (has (events os) x) → ⊥
-no_common_event ws os none x h k =
-    let inside = has_inside (events ws) x h in
-    let here = has_at ws (x / 64) x refl in
-    let there = has_at os (x / 64) x refl in
-    let both = sym (bit_of_and (get_or ws (x / 64) 0) (get_or os (x / 64) 0) (x % 64)) ∙ ap (λ n. bit n (x % 64)) (none (x / 64) (omega arith)) ∙ bit_zero (x % 64) in
-    grind (arith, nat_tests)
+-- words made each of the words of two sets, digit by digit
+pub has_joined : (f : Bool → Bool → Bool) (ws os vs : List ℕ) → f false false ≡ false
+    → ((i k : ℕ) → i < 4 → k < 64 → bit (get_or vs i 0) k ≡ f (bit (get_or ws i 0) k) (bit (get_or os i 0) k))
+    → (x : ℕ) → has (events vs) x ≡ f (has (events ws) x) (has (events os) x)
+unfolding has
+has_joined f ws os vs none digit x = elim (cases_lt x 256) [
+  | inl l ↦ rw (lt-ltb x 256 l) (digit (x / 64) (x % 64) (omega arith) (omega arith))
+  | inr h ↦ rw (le-ltb x 256 h) (sym none)
+]

@@ -1,12 +1,14 @@
 //! A set of events, walked from its lowest event up.
-ghost use Rattle.std.specs.Prelude.{◌≡◌, ℕ, ◌+◌, ◌-◌, ◌*◌, ◌/◌, ◌%◌, ◌<◌, false, not, ◌&&◌, ◌||◌, T, MatchBool, ◌==◌, nat_lt};
+ghost use Rattle.std.specs.Prelude.{◌≡◌, ℕ, ◌+◌, ◌-◌, ◌*◌, ◌/◌, ◌%◌, ◌^◌, ◌<◌, false, not, ◌&&◌, ◌||◌, T, MatchBool, ◌==◌, nat_lt, slice_index};
 ghost use Rattle.event_set.specs.Sets.{has, HasJust, Gives, weight};
 ghost use Rattle.std.specs.Iterator.{at_most};
+
+use std::array;
 
 mod words;
 
 /// Event x is bit x mod 64 of word x div 64.
-#[derive(Clone, Copy)]
+#[derive(Clone, Copy, PartialEq, Eq)]
 pub struct EventSet {
     words: [u64; 4],
 }
@@ -24,10 +26,8 @@ impl EventSet {
         ensures has_just_those_below { HasJust result (λ x. nat_lt x 256 && nat_lt x n) }
     {
         let mut all = EventSet::empty();
-        for x in 0..256usize {
-            if x < n {
-                all.insert(x as u8);
-            }
+        for x in 0..n.min(256) {
+            all.insert(x as u8);
         }
         all
     }
@@ -57,26 +57,31 @@ impl EventSet {
     pub fn union_with(&mut self, other: &EventSet)
         ensures has_the_events_of_either { HasJust self.new (λ x. has self.old x || has other.now x) }
     {
-        for i in 0..4 {
-            self.words[i] |= other.words[i];
-        }
+        *self = self.word_by_word(other, |a, b| a | b);
     }
 
     /// Keeps the events that are in `other` too.
     pub fn intersect_with(&mut self, other: &EventSet)
         ensures has_the_events_of_both { HasJust self.new (λ x. has self.old x && has other.now x) }
     {
-        for i in 0..4 {
-            self.words[i] &= other.words[i];
-        }
+        *self = self.word_by_word(other, |a, b| a & b);
     }
 
     /// Takes the events of `other` away.
     pub fn difference_with(&mut self, other: &EventSet)
         ensures has_the_events_of_this_alone { HasJust self.new (λ x. has self.old x && not (has other.now x)) }
     {
-        for i in 0..4 {
-            self.words[i] &= !other.words[i];
+        *self = self.word_by_word(other, |a, b| a & !b);
+    }
+
+    /// The set whose words `op` gives of those of both sets.
+    fn word_by_word<F: Fn(u64, u64) -> u64>(&self, other: &EventSet, op: F) -> EventSet
+        requires { F.IsAlwaysCallable op }
+        ensures gives_each_word { (i : ℕ) → i < 4 → F.post op (slice_index self.now.words i) (slice_index other.now.words i) (slice_index result.words i) }
+        ensures of_words_of_64_bits { (i : ℕ) → i < 4 → slice_index other.now.words i < 2 ^ 64 }
+    {
+        EventSet {
+            words: array::from_fn(|i| op(self.words[i], other.words[i])),
         }
     }
 
@@ -92,12 +97,9 @@ impl EventSet {
     pub fn is_disjoint(&self, other: &EventSet) -> bool
         ensures true_exactly_when_none_is_in_both { MatchBool result ((x : ℕ) → T (has self.now x) → T (has other.now x) → ⊥) ((x : ℕ) × T (has self.now x) × T (has other.now x)) }
     {
-        for i in 0..4 {
-            if self.words[i] & other.words[i] != 0 {
-                return false;
-            }
-        }
-        true
+        let mut both = *self;
+        both.intersect_with(other);
+        both.is_empty()
     }
 }
 
@@ -110,8 +112,7 @@ impl Iterator for EventSet {
     ghost remaining = { λ s. at_most (weight s) };
 
     fn next(&mut self) -> Option<u8> {
-        for i in 0..4 {
-            let word = self.words[i];
+        for (i, &word) in self.words.iter().enumerate() {
             if word != 0 {
                 self.words[i] = word & (word - 1);
                 return Some((64 * i + word.trailing_zeros() as usize) as u8);

@@ -40,7 +40,7 @@ impl Relation {
         ensures has_just_the_seconds_of_a { HasJust result (λ y. holds self.now a y) }
     {
         let at = 4 * a as usize;
-        EventSet::from_words([
+        EventSet::from([
             self.words[at],
             self.words[at + 1],
             self.words[at + 2],
@@ -61,9 +61,9 @@ impl Relation {
     pub fn join_row(&mut self, a: u8, seconds: &EventSet)
         ensures adds_just_those_pairs_of_a { Is self.new (λ x y. holds self.old x y || (x == a && has seconds.now y)) }
     {
-        let row = seconds.words();
-        for i in 0..4 {
-            self.words[4 * a as usize + i] |= row[i];
+        let row = <[u64; 4]>::from(*seconds);
+        for (i, word) in row.iter().enumerate() {
+            self.words[4 * a as usize + i] |= word;
         }
     }
 
@@ -72,8 +72,8 @@ impl Relation {
         ensures holds_the_pairs_of_either { Is self.new (λ x y. holds self.old x y || holds other.now x y) }
         ensures a_larger_relation_keeps_every_cycle { LargerKeepsCycles }
     {
-        for i in 0..1024 {
-            self.words[i] |= other.words[i];
+        for (i, word) in self.words.iter_mut().enumerate() {
+            *word |= other.words[i];
         }
     }
 

@@ -3,17 +3,18 @@ ghost use Rattle.std.specs.Prelude.{◌≡◌};
 
 use super::EventSet;
 
-impl EventSet {
-    /// The set that four words tell.
-    pub fn from_words(words: [u64; 4]) -> EventSet
-        ensures has_those_words { result.words ≡ words }
-    {
+impl From<[u64; 4]> for EventSet {
+    ghost from_gives = { λ words set. set.words ≡ words };
+
+    fn from(words: [u64; 4]) -> EventSet {
         EventSet { words }
     }
+}
 
-    pub fn words(&self) -> [u64; 4]
-        ensures tells_its_words { result ≡ self.now.words }
-    {
-        self.words
+impl From<EventSet> for [u64; 4] {
+    ghost from_gives = { λ set words. words ≡ set.words };
+
+    fn from(set: EventSet) -> [u64; 4] {
+        set.words
     }
 }

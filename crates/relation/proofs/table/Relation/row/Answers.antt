@@ -8,5 +8,5 @@ use Rattle.relation.proofs.table.Relation.row.Goals as goal
 pub returns : goal.returns
 returns c = record {
   has_just_the_seconds_of_a = λ y.
-      subst (λ (ws : List ℕ). has (events ws) y ≡ holds c.args.self.now c.args.a y) (sym c.from_words.ensures.has_those_words) (has_row c.args.self.now.words c.args.a y (omega arith));
+      subst (λ (ws : List ℕ). has (events ws) y ≡ holds c.args.self.now c.args.a y) (sym c.from.ensures) (has_row c.args.self.now.words c.args.a y (omega arith));
 }

@@ -8,7 +8,7 @@ use Rattle.relation.proofs.table.Relation.union_with.Goals as goal
 
 pub loop-i-preserved : goal.loop-i-preserved
 loop-i-preserved c = λ x y.
-    let ws = c.loop-i.self.words in
+    let ws = c.loop-i.word-items in
     let os = c.args.other.now.words in
     let i = c.loop-i.i in
     let after = holds_set ws i (bit_or (get_or ws i 0) (get_or os i 0)) x y (omega arith) in

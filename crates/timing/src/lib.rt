@@ -1,0 +1,35 @@
+//! What the programs that time something share: how often they do their work, and the least time that it took.
+#![tactic(auto)]
+
+ghost use Rattle.std.specs.Prelude.{IfOk};
+ghost use Rattle.std.specs.List.{FoldsTo, range_with_len};
+
+use std::env::Env;
+use std::io;
+use std::time::{Clock, Duration, Instant};
+
+/// The number of rounds: the program's argument, or one where it has none.
+pub fn rounds(rt: &impl Env) -> u32 {
+    argument(rt).unwrap_or(1)
+}
+
+/// The program's first argument, if it is a number.
+fn argument(rt: &impl Env) -> Option<u32> {
+    let mut word = [0u8; 10];
+    let len = rt.arg(1, &mut word).ok()?;
+    str::from_utf8(word.get(..len)?).ok()?.parse().ok()
+}
+
+/// The least time that a round of the work took. The work is told the round's number, from 0 on.
+pub fn least<W: FnMut(u32)>(clock: &impl Clock, rounds: u32, mut work: W) -> io::Result<Duration>
+    requires { W.IsAlwaysCallable work }
+    ensures each_round_was_worked_in_turn { IfOk result (λ _. (last : W) × FoldsTo (λ p x q. W.step p x tt q) work (range_with_len 0 rounds) last) }
+{
+    let mut least = Duration::MAX;
+    for round in 0..rounds {
+        let start = Instant::now(clock)?;
+        work(round);
+        least = least.min(start.elapsed(clock)?);
+    }
+    Ok(least)
+}

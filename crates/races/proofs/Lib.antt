@@ -1,2 +1,2 @@
-mod Looking
+mod Ranges
 mod Racing

@@ -1,16 +1,13 @@
 -- What holds of every race, and of the first.
-use Rattle.std.proofs.Common.{◌≡◌, ℕ, ◌<◌, Bool, false, not, ◌&&◌, ◌||◌, T, eqb, ◌⊎◌, length, Some, None, Option, sym, refl, ap, ◌∙◌, subst, inl, inr, arith}
+use Rattle.std.proofs.Common.{◌≡◌, ℕ, ◌+◌, ◌<◌, ◌≤◌, Bool, not, ◌&&◌, ◌||◌, T, eqb, ◌⊎◌, length, Some, None, Option, MatchOption, sym, refl, ap, subst, inl, inr, arith}
 use Rattle.std.proofs.lemmas.Bool.Decides.{nat_tests}
-use Rattle.event.specs.declared.event.Label.{Label}
 use Rattle.event.specs.Labels.{is_write, location}
 use Rattle.execution.specs.Content.{Content, label_of}
 use Rattle.execution.proofs.Tests.{left}
 use Rattle.model.proofs.Places.{access_among, agree_turned}
-use Rattle.races.specs.Races.{non_atomic, conflict, may_race, concurrent, races, comes_before, FirstRace, OneFirstRace}
+use Rattle.races.specs.Races.{non_atomic, conflict, may_race, races, comes_before, FirstRace, OneFirstRace}
+use Rattle.races.specs.Partners.{LowestPartner}
 use Rattle.races.specs.declared.race.Race.{Race}
-
-pub never : (x : Bool) → x ≡ false → T x → ⊥
-never x e h = subst T e h
 
 turned : (a b : ℕ) (l m v w p q h k : Bool) → l ≡ m → T (((l && (v || w)) && (p || q)) && (not (eqb a b) && (not h && not k)))
     → T (((m && (w || v)) && (q || p)) && (not (eqb b a) && (not k && not h)))
@@ -30,26 +27,11 @@ none_before r a b lower here c d l h k = elim (before a b c d k) [
   | inr e ↦ here d (omega arith) e.1 (subst (λ x. T (r x d)) e.0 h)
 ]
 
--- races, and the first of them, are the same by relations with the same pairs
-module _ (g : Content) (p q : ℕ → ℕ → Bool) (same : (a b : ℕ) → p a b ≡ q a b) where
-  races_same : (a b : ℕ) → races g p a b ≡ races g q a b
-  races_same a b =
-      ap (λ x. may_race (label_of g a) (label_of g b) && (not (eqb a b) && (not x && not (p b a)))) (same a b)
-      ∙ ap (λ x. may_race (label_of g a) (label_of g b) && (not (eqb a b) && (not (q a b) && not x))) (same b a)
-
-  pub first_race_same : (r : Option Race) → FirstRace g p r → FirstRace g q r
-  first_race_same None none = λ a b h. none a b (subst T (sym (races_same a b)) h)
-  first_race_same (Some r) found =
-      (found.0, subst T (races_same r.first r.second) found.1, λ c d l h. found.2 c d l (subst T (sym (races_same c d)) h))
-
 ordered : (a b c d : ℕ) → T (comes_before a b c d) ⊎ (T (comes_before c d a b) ⊎ ((a ≡ c) × (b ≡ d)))
 ordered a b c d = grind (arith, nat_tests)
 
 same_race : (r s : Race) → r.first ≡ s.first → r.second ≡ s.second → r ≡ s
-same_race r s p q =
-    let by_first : ℕ → Race = λ x. record { first = x; second = r.second } in
-    let by-second : ℕ → Race = λ x. record { first = s.first; second = x } in
-    ap by_first p ∙ ap by-second q
+same_race r s p q = λ i. record { first = p i; second = q i }
 
 -- there is one first race at most
 pub one_first_race : OneFirstRace
@@ -82,6 +64,24 @@ module _ (g : Content) (hb : ℕ → ℕ → Bool) where
     | inr l ↦ none b a l (race_turned a b h)
   ]
 
-  -- the labels that were looked up are those of the events
-  pub race_of : (a b : ℕ) (x y : Label) → x ≡ label_of g a → y ≡ label_of g b → (may_race x y && concurrent hb a b) ≡ races g hb a b
-  race_of a b x y p q = ap (λ z. may_race z y && concurrent hb a b) p ∙ ap (λ z. may_race (label_of g a) z && concurrent hb a b) q
+  -- the first of the higher events that races is the lowest partner
+  pub lowest_partner : (a : ℕ) (found : Option ℕ) (n : ℕ) → n ≡ length g.events
+      → MatchOption found ((k : ℕ) → a + 1 ≤ k → k < n → T (races g hb a k) → ⊥)
+      (λ b. (i : ℕ) × (a + 1 ≤ i) × (i < n) × ((b ≡ i) × T (races g hb a i)) × ((k : ℕ) → a + 1 ≤ k → k < i → T (races g hb a k) → ⊥))
+      → LowestPartner g hb a found
+  lowest_partner a None n e none = λ d l h. none d (omega arith) (omega (arith, second_among a d h)) h
+  lowest_partner a (Some b) n e first = (
+    omega (arith, first.3.0),
+    subst (λ i. T (races g hb a i)) (sym first.3.0) first.3.1,
+    λ d l m. first.4 d (omega arith) (omega (arith, first.3.0)),
+  )
+
+  -- the first event with a partner, and its lowest partner, are the first race
+  pub first_race : (found : Option Race) (n : ℕ) → n ≡ length g.events
+      → MatchOption found ((k : ℕ) → 0 ≤ k → k < n → LowestPartner g hb k None)
+      (λ r. (i : ℕ) × (0 ≤ i) × (i < n) × ((r.first ≡ i) × LowestPartner g hb i (Some r.second)) × ((k : ℕ) → 0 ≤ k → k < i → LowestPartner g hb k None))
+      → FirstRace g hb found
+  first_race None n e none = no_races (λ a b l h. none a (omega arith) (omega (arith, first_among a b h)) b l h)
+  first_race (Some r) n e first =
+      let partner = subst (λ i. LowestPartner g hb i (Some r.second)) (sym first.3.0) first.3.1 in
+      (partner.0, partner.1, none_before (races g hb) r.first r.second (λ k d l. first.4 k (omega arith) (omega (arith, first.3.0)) d) partner.2)

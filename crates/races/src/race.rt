@@ -1,5 +1,6 @@
 //! When two events race.
 ghost use Rattle.std.specs.Prelude.{◌≡◌};
+ghost use Rattle.execution.specs.Content.{label_of};
 ghost use Rattle.graph.specs.View.{view};
 ghost use Rattle.relation.specs.Table.{holds};
 ghost use Rattle.races.specs.Races.{conflict, non_atomic, may_race, concurrent, races};
@@ -15,16 +16,33 @@ pub struct Race {
     pub second: u8,
 }
 
-pub(crate) fn is_race(graph: &Graph, happens_before: &Relation, a: u8, b: u8) -> bool
-    ensures { result ≡ races (view graph.now) (holds happens_before.now) a b }
-{
-    let Some(x) = graph.label(a as u32) else {
-        return false;
-    };
-    let Some(y) = graph.label(b as u32) else {
-        return false;
-    };
-    may_race(x, y) && are_concurrent(happens_before, a, b)
+/// A graph with the happens-before of its events.
+#[derive(Clone, Copy)]
+pub(crate) struct Ordered<'a> {
+    pub graph: &'a Graph,
+    pub happens_before: &'a Relation,
+}
+
+impl Ordered<'_> {
+    pub fn is_race(&self, a: u8, b: u8) -> bool
+        ensures { result ≡ races (view self.now.graph.now) (holds self.now.happens_before.now) a b }
+    {
+        self.may_race(a, b) && self.are_concurrent(a, b)
+    }
+
+    /// Whether both are events, they conflict, and one of them is not atomic.
+    fn may_race(&self, a: u8, b: u8) -> bool
+        ensures { result ≡ may_race (label_of (view self.now.graph.now) a) (label_of (view self.now.graph.now) b) }
+    {
+        let labels = self.graph.label(a as u32).zip(self.graph.label(b as u32));
+        labels.is_some_and(|(x, y)| may_race(x, y))
+    }
+
+    fn are_concurrent(&self, a: u8, b: u8) -> bool
+        ensures { result ≡ concurrent (holds self.now.happens_before.now) a b }
+    {
+        a != b && !self.happens_before.contains(a, b) && !self.happens_before.contains(b, a)
+    }
 }
 
 /// Whether the two conflict, and one of them is not atomic.
@@ -38,23 +56,11 @@ fn may_race(a: Label, b: Label) -> bool
 fn conflicts(a: Label, b: Label) -> bool
     ensures { result ≡ conflict a b }
 {
-    match (a.location(), b.location()) {
-        (Some(x), Some(y)) => x == y && (a.writes() || b.writes()),
-        _ => false,
-    }
+    a.shares_location(b) && (a.writes() || b.writes())
 }
 
 fn is_non_atomic(label: Label) -> bool
     ensures { result ≡ non_atomic label }
 {
-    match label.mode() {
-        Mode::NonAtomic => true,
-        _ => false,
-    }
-}
-
-fn are_concurrent(happens_before: &Relation, a: u8, b: u8) -> bool
-    ensures { result ≡ concurrent (holds happens_before.now) a b }
-{
-    a != b && !happens_before.contains(a, b) && !happens_before.contains(b, a)
+    label.mode() == Mode::NonAtomic
 }

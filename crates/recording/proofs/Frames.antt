@@ -6,7 +6,6 @@ use Rattle.execution.specs.Content.{Content, opening}
 use Rattle.recording.specs.declared.header.Header.{Header as Head}
 use Rattle.recording.specs.declared.layout.LineKind.{LineKind}
 use Rattle.recording.specs.declared.layout.LineKind.TheVariants.{Header, Event, Link, Place, End}
-use Rattle.recording.specs.declared.line.Fields.{Fields}
 use Rattle.recording.specs.Layout.{kind, rest, field_denial, numbers}
 use Rattle.recording.specs.Headings.{Heading, heading, heading_denial, heading_of}
 use Rattle.recording.specs.Meaning.{Stage, unopened, taking, due, in_frame, is_header, own_denial}
@@ -38,7 +37,7 @@ header_first n k low h = rw (h, le-leb n 1024 low)
 pub entry_after : (n : ℕ) (e : Bool) (h : Heading) (g : Content) (k : LineKind) → n ≤ 1024 → e ≡ false → (k ≡ Header → ⊥) → in_frame n (stage e h g) k ≡ true
 entry_after n e h g k low is no-h = rw (is, not_header k no-h, le-leb n 1024 low)
 
-module _ (n : ℕ) (line cut : List ℕ) (k : LineKind) (f : Fields) (low : n ≤ 1024) (known : kind line ≡ Some k) (same : cut ≡ rest line) (good : field_denial k cut ≡ None) (read : f ≡ numbers k cut) where
+module _ (n : ℕ) (line cut : List ℕ) (k : LineKind) (f : List ℕ) (low : n ≤ 1024) (known : kind line ≡ Some k) (same : cut ≡ rest line) (good : field_denial k cut ≡ None) (read : f ≡ numbers k cut) where
   -- an entry in form, as the graph takes it
   pub enters : (e : Bool) (g g' : Content) (r : Result Bool Denial) → e ≡ false → (k ≡ Header → ⊥) → Applies k f g g' r → Enters n e line g g' r
   unfolding own_denial

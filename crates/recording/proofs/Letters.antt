@@ -1,5 +1,9 @@
 -- When a line has a kind.
-use Rattle.std.proofs.Common.{◌≡◌, ℕ, ◌+◌, ◌-◌, true, false, cond, ◌&&◌, eqb, List, length, get_or, take, drop, None, refl, ap, ◌∙◌}
+use Rattle.std.proofs.Common.{◌≡◌, ℕ, ◌+◌, ◌-◌, true, false, cond, ◌&&◌, eqb, List, length, get_or, take, drop, None, refl, ap, ◌∙◌, Some, Option, Ok, Err, arith}
+use Rattle.std.specs.Option.{ok_or}
+use Rattle.event.specs.declared.denial.Denial.{Denial}
+use Rattle.event.specs.declared.denial.Denial.TheVariants.{Line}
+use Rattle.recording.specs.declared.layout.LineKind.{LineKind}
 use Rattle.std.proofs.lemmas.List.{take_rest, get_or-drop, length-drop}
 use Rattle.std.proofs.lemmas.Bool.{eq-eqb, ne_eqb}
 use Rattle.recording.specs.Layout.{kind, lettered}
@@ -25,3 +29,10 @@ rest_length line = ap length (part_is_rest line) ∙ length-drop 1 line
 
 pub rest_at : (line : List ℕ) (i : ℕ) → get_or (take (length line - 1) (drop 1 line)) i 0 ≡ get_or line (1 + i) 0
 rest_at line i = ap (λ xs. get_or xs i 0) (part_is_rest line) ∙ get_or-drop 1 line i 0
+
+-- a letter's kind or denial, as it was asked for
+pub known_letter : (o : Option LineKind) (k : LineKind) → Ok k ≡ ok_or o Line → o ≡ Some k
+known_letter o k e = grind arith
+
+pub unknown_letter : (o : Option LineKind) (d : Denial) → Err d ≡ ok_or o Line → (o ≡ None) × (d ≡ Line)
+unknown_letter o d e = (grind arith, grind arith)

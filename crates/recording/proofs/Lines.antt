@@ -1,7 +1,9 @@
 -- The first line of some bytes, and what comes after it.
-use Rattle.std.proofs.Common.{◌≡◌, ℕ, zero, suc, ◌+◌, ◌-◌, ◌<◌, ◌≤◌, true, false, cond, eqb, List, [], ◌∷◌, length, get_or, take, drop, sym, refl, ap, ◌∙◌, arith}
+use Rattle.std.proofs.Common.{◌≡◌, ℕ, zero, suc, ◌+◌, ◌-◌, ◌<◌, ◌≤◌, true, false, cond, eqb, List, [], ◌∷◌, ◌++◌, length, get_or, take, drop, min, sym, refl, ap, ◌∙◌, arith}
 use lib.Seq.{take-nil}
-use Rattle.std.proofs.lemmas.List.{at_drop_more, at_drop_all, take_rest, drop-drop, length-take-le}
+use Rattle.std.specs.List.{IsFirstMatchOrLen}
+use Rattle.std.proofs.Math.Seq.{take-append_seam}
+use Rattle.std.proofs.lemmas.List.{take_rest, drop-drop, drop_all}
 use Rattle.recording.specs.Lines.{lines, onto}
 
 -- up to the first newline, which is included
@@ -47,22 +49,20 @@ first_within (b ∷ bs) =
     let ih = first_within bs
     in elim (eqb b 10) as (λ t. suc (length (cond t [] (first bs))) ≤ suc (length bs)) [ true ↦ omega arith | false ↦ omega arith ]
 
--- the first line by its length
-pub lines_by_length : (bs : List ℕ) (r : ℕ) → r ≡ length (first bs) → 0 < length bs → lines bs ≡ take r bs ∷ lines (drop r bs)
-lines_by_length bs r e h = rw (e, first_is_take, after_is_drop) (lines_by_first bs h)
-
--- a newline ends the first line, and any other byte is a part of it
-pub first_ends : (bs : List ℕ) (i : ℕ) → i < length bs → get_or bs i 0 ≡ 10 → length (first (drop i bs)) ≡ 1
+-- the first newline's place, or else the length, says where the first line ends
+pub first_by_place : (bs : List ℕ) (i : ℕ) → 0 < length bs → IsFirstMatchOrLen (λ b. eqb b 10) bs i → length (first bs) ≡ min (i + 1) (length bs)
 unfolding first
-first_ends bs i h e = at_drop_more (λ xs. length (first xs)) bs i 0 h ∙ rw e
-
-pub first_goes_on : (bs : List ℕ) (i : ℕ) → i < length bs → eqb (get_or bs i 0) 10 ≡ false → length (first (drop i bs)) ≡ suc (length (first (drop (i + 1) bs)))
-unfolding first
-first_goes_on bs i h e = at_drop_more (λ xs. length (first xs)) bs i 0 h ∙ rw e
-
-pub first_none : (bs : List ℕ) (i : ℕ) → length bs ≤ i → length (first (drop i bs)) ≡ 0
-unfolding first
-first_none bs i h = at_drop_all (λ xs. length (first xs)) bs i h
+first_by_place [] i some at = absurd (omega arith)
+first_by_place (b ∷ bs) zero some (before, there) =
+    let e : eqb b 10 ≡ true = there some 0
+    in rw e (omega arith)
+first_by_place (b ∷ []) (suc i) some (before, there) =
+    let e : eqb b 10 ≡ false = before 0 0 (omega arith) (omega arith)
+    in rw e (omega arith)
+first_by_place (b ∷ c ∷ bs) (suc i) some (before, there) =
+    let e : eqb b 10 ≡ false = before 0 0 (omega arith) (omega arith)
+    in let ih = first_by_place (c ∷ bs) i (omega arith) (λ k d low high. before (suc k) d (omega arith) (omega arith), λ h d. there (omega arith) d)
+    in rw e (omega (arith, ih))
 
 -- no newline stands before a line's last byte
 pub no_newline_inside : (bs : List ℕ) (k : ℕ) → suc k < length (first bs) → get_or (first bs) k 0 ≡ 10 → ⊥
@@ -91,12 +91,18 @@ after_of_take (suc m) (b ∷ bs) h =
       | false ↦ λ low. let e : suc m - suc (length (first bs)) ≡ m - length (first bs) = omega arith in rw e (after_of_take m bs low)
     ] (omega arith)
 
--- a reader's next line, where its length in the part that is left is known
-pub next_line : (bytes : List ℕ) (p r : ℕ) → let left = take (length bytes - p) (drop p bytes) in lines left ≡ take r left ∷ lines (drop r left) → r ≤ length left → lines (drop p bytes) ≡ take (r - 0) left ∷ lines (drop (p + length (take (r - 0) left)) bytes)
-next_line bytes p r e h =
-    let whole : take (length bytes - p) (drop p bytes) ≡ drop p bytes = take_rest bytes p
-    in let e' : lines (drop p bytes) ≡ take r (drop p bytes) ∷ lines (drop r (drop p bytes)) = rw whole at e
-    in let h' : r ≤ length (drop p bytes) = rw whole at h
-    in let long : length (take r (drop p bytes)) ≡ r = length-take-le r (drop p bytes) h'
-    in let same : r - 0 ≡ r = omega arith
-    in rw (whole, same, long) (e' ∙ ap (λ xs. take r (drop p bytes) ∷ lines xs) (drop-drop r p bytes))
+-- what a reader has left: no line, or its next one, cut off with all that follows it
+module _ (bytes : List ℕ) (p : ℕ) (left : List ℕ) (is : left ≡ take (length bytes - p) (drop p bytes)) where
+  whole : left ≡ drop p bytes
+  whole = is ∙ take_rest bytes p
+
+  pub no_line : length left ≡ 0 → lines (drop p bytes) ≡ []
+  unfolding lines
+  no_line none = ap lines (sym whole ∙ drop_all 0 left (omega arith))
+
+  pub next_line : (line later : List ℕ) (i : ℕ) → left ≡ line ++ later → 0 < length left → length line ≡ min (i + 1) (length left) → IsFirstMatchOrLen (λ b. eqb b 10) left i → lines (drop p bytes) ≡ line ∷ lines (drop (p + length line) bytes)
+  next_line line later i split some long at =
+      let long' : length (first left) ≡ length line = first_by_place left i some at ∙ sym long
+      in let one : first left ≡ line = sym (first_is_take left) ∙ rw (long', split) (take-append_seam line later)
+      in let rest : after left ≡ drop (p + length line) bytes = sym (after_is_drop left) ∙ rw (long', whole) (drop-drop (length line) p bytes)
+      in rw (← whole, ← rest) (lines_by_first left some ∙ ap (λ l. l ∷ lines (after left)) one)

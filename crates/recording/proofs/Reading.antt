@@ -1,6 +1,7 @@
 -- A reader's next line, and what it makes of a stage.
-use Rattle.std.proofs.Common.{◌≡◌, ℕ, suc, ◌+◌, ◌-◌, ◌≤◌, Bool, true, false, List, [], ◌∷◌, drop, Some, None, Ok, Err, Result, sym, refl, ap, ◌∙◌, subst, add-one, arith}
+use Rattle.std.proofs.Common.{◌≡◌, ℕ, suc, ◌+◌, ◌-◌, ◌≤◌, Bool, true, false, List, [], ◌∷◌, drop, Some, None, Ok, Err, Result, MatchResult, IsErrAnd, sym, refl, ap, ◌∙◌, subst, add-one, arith}
 use Rattle.std.proofs.lemmas.List.{drop-drop}
+use Rattle.std.proofs.lemmas.Result.{err_from_is_err_and}
 use Rattle.event.specs.declared.denial.Denial.{Denial}
 use Rattle.event.specs.declared.denial.Denial.TheVariants.{Frame}
 use Rattle.execution.specs.Content.{Content, opening}
@@ -9,7 +10,7 @@ use Rattle.recording.specs.declared.fault.Denied.{Denied}
 use Rattle.recording.specs.declared.header.Header.{Header}
 use Rattle.recording.specs.declared.reader.Reader.{Reader}
 use Rattle.recording.specs.Lines.{lines}
-use Rattle.recording.specs.Faults.{fault, on_line}
+use Rattle.recording.specs.Faults.{fault}
 use Rattle.recording.specs.Headings.{Heading, heading_of}
 use Rattle.recording.specs.Meaning.{Stage, unopened, line_denial, line_step, Outcome, stopped, unfinished, meaning, taking}
 use Rattle.recording.specs.Left.{left, ahead}
@@ -17,14 +18,24 @@ use Rattle.recording.specs.Answers.{Fills, Takes, opened, whole}
 use Rattle.recording.specs.OneLine.{Heads, Enters, stage}
 use Rattle.recording.proofs.Steps.{run_stops, run_steps, run_ends}
 
--- the answer under a line's number
-pub answered : {A : Type 0} (n : ℕ) (r : Result A Denial) (x : A) → on_line n r ≡ Ok x → r ≡ Ok x
-answered n (Ok y) x e = cc
-answered n (Err d) x e = cc
+-- what an answer was before its denial got the line's number
+module _ {A : Type 0} {r : Result A Denial} {s : Result A Denied} (Q : Denial → Denied → Type 0) (mapped : MatchResult r (λ x. s ≡ Ok x) (λ d. IsErrAnd s (Q d))) where
+  pub answered : (x : A) → s ≡ Ok x → r ≡ Ok x
+  answered x e = elim r as (λ r. MatchResult r (λ x. s ≡ Ok x) (λ d. IsErrAnd s (Q d)) → r ≡ Ok x) [
+    | Ok y ↦ λ m. let same : s ≡ Ok y = m in cc
+    | Err d ↦ λ m. let p = err_from_is_err_and s m in let q : s ≡ Err p.0 = p.1 in cc
+  ] mapped
 
-pub denied : {A : Type 0} (n : ℕ) (r : Result A Denial) (x : Denied) → on_line n r ≡ Err x → (r ≡ Err x.denial) × (x.line ≡ n)
-denied n (Ok y) x e = (cc, cc)
-denied n (Err d) x e = let same : record { line = n; denial = d } ≡ x = cc in (ap (λ (y : Denied). Err y.denial) same, ap (λ (y : Denied). y.line) (sym same))
+  pub denied : (n : ℕ) → ((d : Denial) (y : Denied) → Q d y → y ≡ record { line = n; denial = d }) → (x : Denied) → s ≡ Err x → (r ≡ Err x.denial) × (x.line ≡ n)
+  denied n made x e = elim r as (λ r. MatchResult r (λ x. s ≡ Ok x) (λ d. IsErrAnd s (Q d)) → (r ≡ Err x.denial) × (x.line ≡ n)) [
+    | Ok y ↦ λ m. let same : s ≡ Ok y = m in (cc, cc)
+    | Err d ↦ λ m.
+        let p = err_from_is_err_and s m
+        in let q : s ≡ Err p.0 = p.1
+        in let same : x ≡ p.0 = cc
+        in let is : x ≡ record { line = n; denial = d } = same ∙ made d p.0 p.2
+        in (ap (λ (y : Denied). Err y.denial) (sym is), ap (λ (y : Denied). y.line) is)
+  ] mapped
 
 pub ahead_ends : (a : Reader) (s : Stage) → lines (left a) ≡ [] → ahead a s ≡ record { stage = s; fault = unfinished (suc a.line) s }
 ahead_ends a s e = rw e (run_ends (suc a.line) s)
@@ -53,27 +64,25 @@ module _ (a b : Reader) (l : List ℕ) (next : lines (left a) ≡ l ∷ lines (l
       let n : b.line ≡ suc a.line = counted ∙ add-one a.line
       in rw next (rw (← n) (run_stops b.line s l d (lines (left b)) e))
 
-  pub headed : (r : Result Header Denial) (h : Header) → Heads b.line l r → on_line b.line r ≡ Ok h → ahead a unopened ≡ ahead b (opened h)
+  pub headed : (r : Result Header Denial) (h : Header) → Heads b.line l r → r ≡ Ok h → ahead a unopened ≡ ahead b (opened h)
   headed r h heads e =
-      let heads' : Heads b.line l (Ok h) = subst (Heads b.line l) (answered b.line r h e) heads
+      let heads' : Heads b.line l (Ok h) = subst (Heads b.line l) e heads
       in ahead_steps unopened heads'.0 ∙ ap (ahead b) heads'.1
 
-  pub not_headed : (r : Result Header Denial) (x : Denied) → Heads b.line l r → on_line b.line r ≡ Err x → ahead a unopened ≡ stopped unopened (fault x.line x.denial)
-  not_headed r x heads e =
-      let p = denied b.line r x e
-      in let heads' : Heads b.line l (Err x.denial) = subst (Heads b.line l) p.0 heads
-      in rw p.1 (ahead_stops unopened x.denial heads')
+  pub not_headed : (r : Result Header Denial) (x : Denied) → Heads b.line l r → (r ≡ Err x.denial) × (x.line ≡ b.line) → ahead a unopened ≡ stopped unopened (fault x.line x.denial)
+  not_headed r x heads (e, at) =
+      let heads' : Heads b.line l (Err x.denial) = subst (Heads b.line l) e heads
+      in rw at (ahead_stops unopened x.denial heads')
 
-  pub entered_on : (e e' : Bool) (g g' : Content) (r : Result Bool Denial) → Enters b.line e l g g' r → on_line b.line r ≡ Ok e' → (h : Heading) → ahead a (stage e h g) ≡ ahead b (stage e' h g')
+  pub entered_on : (e e' : Bool) (g g' : Content) (r : Result Bool Denial) → Enters b.line e l g g' r → r ≡ Ok e' → (h : Heading) → ahead a (stage e h g) ≡ ahead b (stage e' h g')
   entered_on e e' g g' r enters is h =
-      let enters' : Enters b.line e l g g' (Ok e') = subst (Enters b.line e l g g') (answered b.line r e' is) enters
+      let enters' : Enters b.line e l g g' (Ok e') = subst (Enters b.line e l g g') is enters
       in ahead_steps (stage e h g) (enters' h).0 ∙ ap (ahead b) (enters' h).1
 
-  pub not_entered : (e : Bool) (g g' : Content) (r : Result Bool Denial) (x : Denied) → Enters b.line e l g g' r → on_line b.line r ≡ Err x → (h : Heading) → (ahead a (stage e h g) ≡ stopped (stage e h g) (fault x.line x.denial)) × (g' ≡ g)
-  not_entered e g g' r x enters is h =
-      let p = denied b.line r x is
-      in let enters' : Enters b.line e l g g' (Err x.denial) = subst (Enters b.line e l g g') p.0 enters
-      in (rw p.1 (ahead_stops (stage e h g) x.denial (enters'.1 h)), enters'.0)
+  pub not_entered : (e : Bool) (g g' : Content) (r : Result Bool Denial) (x : Denied) → Enters b.line e l g g' r → (r ≡ Err x.denial) × (x.line ≡ b.line) → (h : Heading) → (ahead a (stage e h g) ≡ stopped (stage e h g) (fault x.line x.denial)) × (g' ≡ g)
+  not_entered e g g' r x enters (is, at) h =
+      let enters' : Enters b.line e l g g' (Err x.denial) = subst (Enters b.line e l g g') is enters
+      in (rw at (ahead_stops (stage e h g) x.denial (enters'.1 h)), enters'.0)
 
 -- the lines of a that b has behind it
 abbrev pub Taken : Reader → Reader → Type 0

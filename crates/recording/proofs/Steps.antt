@@ -3,7 +3,6 @@ use Rattle.std.proofs.Common.{◌≡◌, ℕ, suc, true, false, List, [], ◌∷
 use Rattle.event.specs.declared.denial.Denial.{Denial}
 use Rattle.event.specs.declared.denial.Denial.TheVariants.{Line, Frame}
 use Rattle.recording.specs.declared.layout.LineKind.{LineKind}
-use Rattle.recording.specs.declared.line.Fields.{Fields}
 use Rattle.recording.specs.Layout.{kind, rest, field_denial, numbers}
 use Rattle.recording.specs.Faults.{fault}
 use Rattle.recording.specs.Meaning.{Stage, in_frame, own_denial, line_denial, line_step, advanced, stopped, unfinished, run}
@@ -23,14 +22,14 @@ module _ (n : ℕ) (s : Stage) (line : List ℕ) where
     unfolding line_denial
     bad_field d in-it bad = let bad' : field_denial k (rest line) ≡ Some d = ap (field_denial k) (sym same) ∙ bad in rw (known, in-it, bad')
 
-    pub own_line : (f : Fields) → in_frame n s k ≡ true → field_denial k cut ≡ None → f ≡ numbers k cut → line_denial n s line ≡ own_denial s k f
+    pub own_line : (f : List ℕ) → in_frame n s k ≡ true → field_denial k cut ≡ None → f ≡ numbers k cut → line_denial n s line ≡ own_denial s k f
     unfolding line_denial
     own_line f in-it good read =
         let good' : field_denial k (rest line) ≡ None = ap (field_denial k) (sym same) ∙ good
         in let read' : f ≡ numbers k (rest line) = read ∙ ap (numbers k) same
         in rw (known, in-it, good', read')
 
-    pub advances : (f : Fields) → f ≡ numbers k cut → line_step s line ≡ advanced s k f
+    pub advances : (f : List ℕ) → f ≡ numbers k cut → line_step s line ≡ advanced s k f
     unfolding line_step
     advances f read = let read' : f ≡ numbers k (rest line) = read ∙ ap (numbers k) same in rw (known, read')
 

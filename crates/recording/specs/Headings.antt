@@ -1,11 +1,10 @@
 -- What the H line says.
-use Rattle.std.specs.Prelude.{ℕ, ◌^◌, cond, None, Option, nat_le, nat_lt}
+use Rattle.std.specs.Prelude.{ℕ, ◌^◌, cond, List, None, Option, nat_le, nat_lt, slice_index}
 use Rattle.event.specs.declared.denial.Denial.{Denial}
 use Rattle.event.specs.declared.denial.Denial.TheVariants.{Range}
 use Rattle.event.specs.Denials.{unless, or_else}
 use Rattle.event.specs.Sizes.{size_denial}
 use Rattle.recording.specs.declared.header.Header.{Header}
-use Rattle.recording.specs.declared.line.Fields.{Fields}
 
 -- the five numbers of the H line
 pub record Heading : Type 0 where
@@ -17,8 +16,8 @@ pub record Heading : Type 0 where
   pub model : ℕ
 
 -- which field has which
-abbrev pub heading : Fields → Heading
-heading f = record { threads = f.first; locations = f.second; strong = f.third; barrier = f.fourth; model = f.fifth }
+abbrev pub heading : List ℕ → Heading
+heading f = record { threads = slice_index f 0; locations = slice_index f 1; strong = slice_index f 2; barrier = slice_index f 3; model = slice_index f 4 }
 
 -- why a heading is denied: its first number out of range
 unfoldable pub heading_denial : Heading → Option Denial

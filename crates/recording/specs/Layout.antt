@@ -1,5 +1,6 @@
 -- What a line is: its letter, its five fields, and which of them it fills.
-use Rattle.std.specs.Prelude.{ℕ, ◌+◌, ◌-◌, Bool, true, false, cond, not, ◌&&◌, ◌||◌, List, [], ◌∷◌, length, take, drop, is_some, Some, None, Option, ◌==◌, slice_index, slice_index_or}
+use Rattle.std.specs.Prelude.{ℕ, ◌+◌, ◌-◌, Bool, true, false, cond, not, ◌&&◌, ◌||◌, List, [], ◌∷◌, length, take, drop, map, is_some, Some, None, Option, ◌==◌, slice_index, slice_index_or}
+use Rattle.std.specs.List.{list_any}
 use Rattle.std.specs.Option.{unwrap_or}
 use Rattle.event.specs.declared.event.Kind.TheVariants.{Read, Write, Update, Fence}
 use Rattle.event.specs.declared.denial.Denial.{Denial}
@@ -7,8 +8,9 @@ use Rattle.event.specs.declared.denial.Denial.TheVariants.{Blank, Number}
 use Rattle.numeral.specs.Numerals.{numeral}
 use Rattle.recording.specs.declared.layout.LineKind.{LineKind}
 use Rattle.recording.specs.declared.layout.LineKind.TheVariants.{Header, Event, Link, Place, End}
-use Rattle.recording.specs.declared.line.Fields.{Fields}
-use Rattle.recording.specs.Rules.{at_first}
+use Rattle.recording.specs.declared.layout.Position.{Position}
+use Rattle.recording.specs.declared.layout.Position.TheVariants.{First, Second, Third, Fourth, Fifth}
+use Rattle.recording.specs.Rules.{positions, at_first}
 use Rattle.event.specs.Denials.{or_else}
 
 -- the letters F H L P R U W Z
@@ -34,6 +36,14 @@ layout Link = true ∷ true ∷ false ∷ false ∷ false ∷ []
 layout Place = true ∷ true ∷ false ∷ false ∷ false ∷ []
 layout End = false ∷ false ∷ false ∷ false ∷ false ∷ []
 
+-- the number of a position
+abbrev pub position_number : Position → ℕ
+position_number First = 1
+position_number Second = 2
+position_number Third = 3
+position_number Fourth = 4
+position_number Fifth = 5
+
 -- whether the field at a position from 1 to 5 is one of them
 abbrev pub fills : LineKind → ℕ → Bool
 fills k p = slice_index_or (layout k) (p - 1) false
@@ -51,9 +61,8 @@ unfoldable pub field : List ℕ → ℕ → List ℕ
 field rest p = take (column (p + 1) - column p) (drop (column p - 2) rest)
 
 -- some byte is no space
-unfoldable pub is_filled : List ℕ → Bool
-is_filled [] = false
-is_filled (b ∷ bs) = not (b == 32) || is_filled bs
+abbrev pub is_filled : List ℕ → Bool
+is_filled field = list_any (λ b. not (b == 32)) field
 
 -- both or neither
 abbrev pub agree : Bool → Bool → Bool
@@ -73,8 +82,8 @@ abbrev pub value : LineKind → List ℕ → ℕ → ℕ
 value k rest p = cond (fills k p) (unwrap_or (numeral (field rest p)) 0) 0
 
 -- the numbers of the five fields
-unfoldable pub numbers : LineKind → List ℕ → Fields
-numbers k rest = record { first = value k rest 1; second = value k rest 2; third = value k rest 3; fourth = value k rest 4; fifth = value k rest 5 }
+unfoldable pub numbers : LineKind → List ℕ → List ℕ
+numbers k rest = map (value k rest) positions
 
 -- Blank at the first field that is not as laid out
 unfoldable pub blank_denial : LineKind → List ℕ → Option Denial

@@ -1,5 +1,5 @@
 -- What a file means, line by line.
-use Rattle.std.specs.Prelude.{ℕ, suc, Bool, true, false, not, ◌&&◌, List, [], ◌∷◌, Some, None, Option, nat_le}
+use Rattle.std.specs.Prelude.{ℕ, suc, Bool, true, false, not, ◌&&◌, List, [], ◌∷◌, Some, None, Option, nat_le, slice_index}
 use Rattle.event.specs.declared.denial.Denial.{Denial}
 use Rattle.event.specs.declared.denial.Denial.TheVariants.{Line, Frame}
 use Rattle.execution.specs.Content.{Content, opening}
@@ -7,7 +7,6 @@ use Rattle.execution.specs.Entries.{Entry, record_event, link, place, denial, st
 use Rattle.event.specs.Denials.{unless, or_else}
 use Rattle.recording.specs.declared.layout.LineKind.{LineKind}
 use Rattle.recording.specs.declared.layout.LineKind.TheVariants.{Header, Event, Link, Place, End}
-use Rattle.recording.specs.declared.line.Fields.{Fields}
 use Rattle.recording.specs.declared.fault.Fault.{Fault}
 use Rattle.recording.specs.Lines.{lines}
 use Rattle.recording.specs.Layout.{kind, rest, field_denial, numbers}
@@ -21,11 +20,11 @@ pub data Stage : Type 0 where
   ended : Heading → Content → Stage
 
 -- the entry of a line, if it is one
-abbrev pub entry : LineKind → Fields → Option Entry
+abbrev pub entry : LineKind → List ℕ → Option Entry
 entry Header f = None
-entry (Event k) f = Some (record_event k (record { thread = f.first; location = f.second; read = f.third; written = f.fourth; mode = f.fifth }))
-entry Link f = Some (link f.first f.second)
-entry Place f = Some (place f.first f.second)
+entry (Event k) f = Some (record_event k (record { thread = slice_index f 0; location = slice_index f 1; read = slice_index f 2; written = slice_index f 3; mode = slice_index f 4 }))
+entry Link f = Some (link (slice_index f 0) (slice_index f 1))
+entry Place f = Some (place (slice_index f 0) (slice_index f 1))
 entry End f = None
 
 abbrev pub is_header : LineKind → Bool
@@ -51,7 +50,7 @@ entry_denial g None = None
 entry_denial g (Some e) = denial g e
 
 -- why the header or the graph denies what a line says
-unfoldable pub own_denial : Stage → LineKind → Fields → Option Denial
+unfoldable pub own_denial : Stage → LineKind → List ℕ → Option Denial
 own_denial unopened k f = heading_denial (heading f)
 own_denial (taking h g) k f = entry_denial g (entry k f)
 own_denial (ended h g) k f = None
@@ -72,8 +71,8 @@ entered h g None = ended h g
 entered h g (Some e) = taking h (step g e)
 
 -- H opens a graph, and the lines after it fill it
-abbrev pub advanced : Stage → LineKind → Fields → Stage
-advanced unopened k f = taking (heading f) (opening f.first f.second)
+abbrev pub advanced : Stage → LineKind → List ℕ → Stage
+advanced unopened k f = taking (heading f) (opening (slice_index f 0) (slice_index f 1))
 advanced (taking h g) k f = entered h g (entry k f)
 advanced (ended h g) k f = ended h g
 

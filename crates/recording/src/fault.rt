@@ -1,7 +1,7 @@
 //! Where a file is at fault and why.
 
 ghost use Rattle.std.specs.Prelude.{◌≡◌};
-ghost use Rattle.recording.specs.Faults.{fault, on_line};
+ghost use Rattle.recording.specs.Faults.{fault};
 
 use crate::layout::column;
 use event::Denial;
@@ -31,15 +31,5 @@ impl From<Denied> for Fault {
             column,
             denial: denied.denial,
         }
-    }
-}
-
-/// The answer of a call that was made for a line.
-pub(crate) fn on_line<T>(line: usize, answer: Result<T, Denial>) -> Result<T, Denied>
-    ensures { result ≡ on_line line answer }
-{
-    match answer {
-        Ok(value) => Ok(value),
-        Err(denial) => Err(Denied { line, denial }),
     }
 }

@@ -1,9 +1,11 @@
 //! The kinds of line, and where their fields stand.
 
 ghost use Rattle.std.specs.Prelude.{◌≡◌, ◌≤◌};
-ghost use Rattle.recording.specs.Layout.{lettered, layout as layout_of, fills as fills_field, column as column_of};
+ghost use Rattle.std.specs.Option.{ok_or};
+ghost use Rattle.event.specs.declared.denial.Denial.TheVariants.{Line};
+ghost use Rattle.recording.specs.Layout.{lettered, layout as layout_of, fills as fills_field, column as column_of, position_number};
 
-use event::Kind;
+use event::{Denial, Kind};
 
 /// What a line says, by its letter.
 #[derive(Clone, Copy)]
@@ -15,23 +17,55 @@ pub enum LineKind {
     End,
 }
 
-impl LineKind {
-    pub(crate) fn of_letter(letter: u8) -> Option<LineKind>
-        ensures { result ≡ lettered letter }
+/// The position of one of a line's five fields.
+#[derive(Clone, Copy)]
+pub(crate) enum Position {
+    First = 1,
+    Second,
+    Third,
+    Fourth,
+    Fifth,
+}
+
+impl Position {
+    /// All five, in their order.
+    pub(crate) const ALL: [Position; 5] = [
+        Position::First,
+        Position::Second,
+        Position::Third,
+        Position::Fourth,
+        Position::Fifth,
+    ];
+
+    pub(crate) fn number(self) -> u8
+        ensures its_number { result ≡ position_number self }
+        ensures one_of_five { (1 ≤ result) × (result ≤ 5) }
     {
+        self as u8
+    }
+}
+
+impl TryFrom<u8> for LineKind {
+    type Error = Denial;
+
+    ghost try_from_gives = { λ letter r. r ≡ ok_or (lettered letter) Line };
+
+    fn try_from(letter: u8) -> Result<LineKind, Denial> {
         match letter {
-            b'F' => Some(LineKind::Event(Kind::Fence)),
-            b'H' => Some(LineKind::Header),
-            b'L' => Some(LineKind::Link),
-            b'P' => Some(LineKind::Place),
-            b'R' => Some(LineKind::Event(Kind::Read)),
-            b'U' => Some(LineKind::Event(Kind::Update)),
-            b'W' => Some(LineKind::Event(Kind::Write)),
-            b'Z' => Some(LineKind::End),
-            _ => None,
+            b'F' => Ok(LineKind::Event(Kind::Fence)),
+            b'H' => Ok(LineKind::Header),
+            b'L' => Ok(LineKind::Link),
+            b'P' => Ok(LineKind::Place),
+            b'R' => Ok(LineKind::Event(Kind::Read)),
+            b'U' => Ok(LineKind::Event(Kind::Update)),
+            b'W' => Ok(LineKind::Event(Kind::Write)),
+            b'Z' => Ok(LineKind::End),
+            _ => Err(Denial::Line),
         }
     }
+}
 
+impl LineKind {
     /// Which of the five fields a line of this kind fills.
     fn layout(self) -> [bool; 5]
         ensures { result ≡ layout_of self }
@@ -46,11 +80,10 @@ impl LineKind {
         }
     }
 
-    pub(crate) fn fills(self, position: u8) -> bool
-        requires one_of_five { (1 ≤ position) × (position ≤ 5) }
-        ensures { result ≡ fills_field self position }
+    pub(crate) fn fills(self, position: Position) -> bool
+        ensures { result ≡ fills_field self (position_number position) }
     {
-        self.layout()[position as usize - 1]
+        self.layout()[position.number() as usize - 1]
     }
 }
 

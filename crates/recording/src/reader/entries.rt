@@ -9,10 +9,10 @@ ghost use Rattle.recording.specs.Lines.{lines};
 ghost use Rattle.recording.specs.Answers.{Opens, Fills, Takes};
 ghost use Rattle.recording.specs.OneLine.{Heads, Enters, Applies};
 
-use crate::fault::{Denied, Fault, on_line};
+use crate::fault::{Denied, Fault};
 use crate::header::Header;
 use crate::layout::LineKind;
-use crate::line::{Fields, Line};
+use crate::line::Line;
 use crate::reader::Reader;
 use event::{Arguments, Denial};
 use graph::Open;
@@ -29,7 +29,12 @@ impl<'a> Reader<'a> {
         let Some(line) = self.next_line() else {
             return Err(Fault::from(self.end_missing()));
         };
-        Ok(on_line(self.line, header_line(self.line, line))?)
+        let number = self.line;
+        let header = header_line(number, line).map_err(|denial| Denied {
+            line: number,
+            denial,
+        })?;
+        Ok(header)
     }
 
     /// Enters the lines that are left into the graph, up to the file's end or its first fault.
@@ -39,7 +44,11 @@ impl<'a> Reader<'a> {
     {
         let mut ended = false;
         while let Some(line) = self.next_line() {
-            ended = on_line(self.line, enter(self.line, line, ended, graph))?;
+            let number = self.line;
+            ended = enter(number, line, ended, graph).map_err(|denial| Denied {
+                line: number,
+                denial,
+            })?;
         }
         if !ended {
             return Err(Fault::from(self.end_missing()));
@@ -85,36 +94,32 @@ fn enter(number: usize, line: &[u8], ended: bool, graph: &mut Open) -> Result<bo
     apply(line.kind, line.fields()?, graph)
 }
 
-fn apply(kind: LineKind, fields: Fields, graph: &mut Open) -> Result<bool, Denial>
+fn apply(kind: LineKind, fields: [u32; 5], graph: &mut Open) -> Result<bool, Denial>
     ensures { Applies kind fields (of_open graph.old) (of_open graph.new) result }
 {
     match kind {
         LineKind::Event(kind) => {
-            let Fields {
-                first,
-                second,
-                third,
-                fourth,
-                fifth,
-            } = fields;
+            let [thread, location, read, written, mode] = fields;
             graph.record(
                 kind,
                 Arguments {
-                    thread: first,
-                    location: second,
-                    read: third,
-                    written: fourth,
-                    mode: fifth,
+                    thread,
+                    location,
+                    read,
+                    written,
+                    mode,
                 },
             )?;
             Ok(false)
         }
         LineKind::Link => {
-            graph.link(fields.first, fields.second)?;
+            let [read, source, ..] = fields;
+            graph.link(read, source)?;
             Ok(false)
         }
         LineKind::Place => {
-            graph.place(fields.first, fields.second)?;
+            let [write, after, ..] = fields;
+            graph.place(write, after)?;
             Ok(false)
         }
         LineKind::Header | LineKind::End => Ok(true),

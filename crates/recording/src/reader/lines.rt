@@ -1,6 +1,6 @@
 //! Lines, one by one.
 
-ghost use Rattle.std.specs.Prelude.{◌≡◌, ◌+◌, ◌<◌, ◌≤◌, [], ◌∷◌, length, take, drop, MatchOption};
+ghost use Rattle.std.specs.Prelude.{◌≡◌, ◌+◌, [], ◌∷◌, MatchOption};
 ghost use Rattle.recording.specs.Lines.{lines};
 ghost use Rattle.recording.specs.Left.{left};
 
@@ -23,28 +23,10 @@ impl<'a> Reader<'a> {
         ensures the_first_line_of_what_is_left { MatchOption result (lines (left self.old) ≡ []) (λ l. lines (left self.old) ≡ l.now ∷ lines (left self.new)) }
         ensures a_line_is_counted_or_nothing_changes { MatchOption result (self.new ≡ self.old) (λ _. self.new.line ≡ self.old.line + 1) }
     {
-        if self.place >= self.bytes.len() {
-            return None;
-        }
         let rest = &self.bytes[self.place..];
-        let line = &rest[0..line_length(rest)];
+        let line = rest.split_inclusive(|byte| *byte == b'\n').next()?;
         self.place += line.len();
         self.line += 1;
         Some(line)
     }
-}
-
-/// The length of the first line.
-fn line_length(bytes: &[u8]) -> usize
-    requires { 0 < length bytes.now }
-    ensures some { 0 < result }
-    ensures within { result ≤ length bytes.now }
-    ensures one_line { lines bytes.now ≡ take result bytes.now ∷ lines (drop result bytes.now) }
-{
-    for (i, byte) in bytes.iter().enumerate() {
-        if *byte == b'\n' {
-            return i + 1;
-        }
-    }
-    bytes.len()
 }

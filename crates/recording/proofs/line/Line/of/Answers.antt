@@ -1,5 +1,6 @@
-use Rattle.std.proofs.Common.{◌≡◌, ◌<◌, length, get_or, sym, refl, ◌∙◌, arith, rules}
-use Rattle.recording.proofs.Letters.{kind_none_by_length, kind_none_by_end, kind_by_letter, part_is_rest, rest_length, rest_at}
+use Rattle.std.proofs.Common.{◌≡◌, ◌<◌, length, get_or, refl, ◌∙◌, arith, rules}
+use Rattle.std.proofs.lemmas.Result.{err_from_is_err_and}
+use Rattle.recording.proofs.Letters.{kind_none_by_length, kind_none_by_end, kind_by_letter, part_is_rest, rest_length, rest_at, known_letter, unknown_letter}
 use Rattle.recording.proofs.line.Line.of.Goals as goal
 use Rattle.recording.proofs.line.Line.of.Goals.{then-rest-ne33-via-then-rest-ne33, then-rest-ne33-via-else-rest-ne33+then-rest-ne10}
 
@@ -17,20 +18,22 @@ returns-then-rest-ne33 c =
       | then-rest-ne33-via-else-rest-ne33+then-rest-ne10 w ↦ (kind_none_by_end c.args.line.now (λ e. omega arith), refl)
     ]
 
-pub returns-in-Some : goal.returns-in-Some
-returns-in-Some c =
+pub returns-in_err-kind : goal.returns-in_err-kind
+returns-in_err-kind c =
     let line = c.args.line.now
     in let long = rest_length line
     in let last = rest_at line 32
     in let one : length line ≡ 34 = omega arith
     in let two : get_or line 33 0 ≡ 10 = omega arith
-    in (kind_by_letter line one two ∙ sym c.of_letter.ensures ∙ c.in-Some.is, part_is_rest line, long ∙ omega arith)
+    in let p = err_from_is_err_and c.from_residual.result c.from_residual.ensures.1
+    in let q = unknown_letter _ _ c.in_err-kind.ensures
+    in rw (p.1, p.2) (kind_by_letter line one two ∙ q.0, q.1)
 
-pub returns-in-None : goal.returns-in-None
-returns-in-None c =
+pub returns : goal.returns
+returns c =
     let line = c.args.line.now
     in let long = rest_length line
     in let last = rest_at line 32
     in let one : length line ≡ 34 = omega arith
     in let two : get_or line 33 0 ≡ 10 = omega arith
-    in (kind_by_letter line one two ∙ sym c.of_letter.ensures ∙ c.in-None.is, refl)
+    in (kind_by_letter line one two ∙ known_letter _ _ c.in_ok-kind.ensures, part_is_rest line)

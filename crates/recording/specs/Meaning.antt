@@ -5,6 +5,7 @@ use Rattle.event.specs.declared.denial.Denial.TheVariants.{Line, Frame}
 use Rattle.execution.specs.Content.{Content, opening}
 use Rattle.execution.specs.Entries.{Entry, record_event, link, place, denial, step}
 use Rattle.event.specs.Denials.{unless, or_else}
+use Rattle.event.specs.Labels.{arguments_from}
 use Rattle.recording.specs.declared.layout.LineKind.{LineKind}
 use Rattle.recording.specs.declared.layout.LineKind.TheVariants.{Header, Event, Link, Place, End}
 use Rattle.recording.specs.declared.fault.Fault.{Fault}
@@ -22,7 +23,7 @@ pub data Stage : Type 0 where
 -- the entry of a line, if it is one
 abbrev pub entry : LineKind → List ℕ → Option Entry
 entry Header f = None
-entry (Event k) f = Some (record_event k (record { thread = slice_index f 0; location = slice_index f 1; read = slice_index f 2; written = slice_index f 3; mode = slice_index f 4 }))
+entry (Event k) f = Some (record_event k (arguments_from f))
 entry Link f = Some (link (slice_index f 0) (slice_index f 1))
 entry Place f = Some (place (slice_index f 0) (slice_index f 1))
 entry End f = None

@@ -80,7 +80,8 @@ fn header_line(number: usize, line: &[u8]) -> Result<Header, Denial>
     Header::of(line.fields()?)
 }
 
-/// Enters a line after the H line, and says whether the file ends with it.
+/// Enters a line after the H line, and says whether the file ends with it. The answer is the next `ended`: a `bool`, since an
+/// enum of two cases would be turned back into the test on `ended` at each use.
 fn enter(number: usize, line: &[u8], ended: bool, graph: &mut Open) -> Result<bool, Denial>
     ensures { Enters number ended line.now (of_open graph.old) (of_open graph.new) result }
 {
@@ -99,17 +100,7 @@ fn apply(kind: LineKind, fields: [u32; 5], graph: &mut Open) -> Result<bool, Den
 {
     match kind {
         LineKind::Event(kind) => {
-            let [thread, location, read, written, mode] = fields;
-            graph.record(
-                kind,
-                Arguments {
-                    thread,
-                    location,
-                    read,
-                    written,
-                    mode,
-                },
-            )?;
+            graph.record(kind, Arguments::from(fields))?;
             Ok(false)
         }
         LineKind::Link => {

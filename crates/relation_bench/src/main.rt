@@ -6,77 +6,43 @@ mod shapes;
 
 use relation::Relation;
 use shapes::Shape;
-use std::time::Instant;
-use std::{env, io};
-
-#[derive(Clone, Copy)]
-enum Task {
-    Build,
-    Close,
-    Test,
-    List,
-    Cycle,
-}
-
-impl Task {
-    fn name(self) -> &'static str {
-        match self {
-            Task::Build => "build",
-            Task::Close => "close",
-            Task::Test => "is_acyclic",
-            Task::List => "list",
-            Task::Cycle => "first_cycle",
-        }
-    }
-}
+use std::io;
 
 /// How many pairs there are.
 fn pairs(table: &Relation) -> usize {
-    let mut count = 0usize;
-    for a in 0..256usize {
-        for _ in table.row(a as u8) {
-            count = count.wrapping_add(1);
-        }
-    }
-    count
+    (0..=u8::MAX)
+        .map(|a| (0..=u8::MAX).filter(|b| table.contains(a, *b)).count())
+        .fold(0usize, |pairs, more| pairs.saturating_add(more))
 }
 
-/// Builds the relation, does the task, and answers a number that depends on all of it.
-fn work(shape: Shape, n: usize, task: Task) -> usize {
-    let mut table = shape.over(n);
-    match task {
-        Task::Build => usize::from(table.contains(1, 0)),
-        Task::Close => {
-            table.close();
-            usize::from(table.contains(255, 0)) + usize::from(table.contains(0, 255))
-        }
-        Task::Test => usize::from(table.is_acyclic()),
-        Task::List => match table.list(n) {
-            Some(listed) => listed.len(),
-            None => 0,
-        },
-        Task::Cycle => match table.first_cycle() {
-            Some(cycle) => cycle.len(),
-            None => 0,
-        },
-    }
+/// How many of the first `n` events are listed.
+fn listed(table: &Relation, n: usize) -> usize {
+    table.list(n).map_or(0, |events| events.len())
 }
 
-/// The least time of a task, building included, over relations of 256 and 255 events in turn.
-fn measure(rt: &HostRuntime, shape: Shape, task: Task, rounds: u32) -> io::Result<()> {
-    let mut best = u128::MAX;
+/// How many events the first cycle has.
+fn on_cycle(table: &Relation) -> usize {
+    table.first_cycle().map_or(0, |events| events.len())
+}
+
+/// Tells the least time of a task, building included, over relations of 256 and 255 events in turn.
+/// The task answers a number that depends on all of its work.
+fn measure<T: Fn(&mut Relation, usize) -> usize>(
+    rt: &HostRuntime,
+    rounds: u32,
+    shape: Shape,
+    name: &str,
+    task: T,
+) -> io::Result<()>
+    requires { (f : T) (table : _) (n : _) → T.pre f table n }
+{
     let mut sum = 0usize;
-    for turn in 0..rounds {
-        let start = Instant::now(rt)?;
-        sum = sum.wrapping_add(work(shape, 256 - turn as usize % 2, task));
-        let nanos = start.elapsed(rt)?.as_nanos();
-        if nanos < best {
-            best = nanos;
-        }
-    }
-    let name = shape.name();
-    let what = task.name();
-    eprintln!(rt; "{name} {what}: {best} ns (sum {sum})")
+    let least = timing::least(rt, rounds, |round| {
+        let n = 256 - round as usize % 2;
+        sum = sum.wrapping_add(task(&mut shape.over(n), n));
+    })?;
+    let nanos = least.as_nanos();
+    eprintln!(rt; "{shape} {name}: {nanos} ns (sum {sum})")
 }
 
 /// What the calls answer on a relation of 256 events.
@@ -87,36 +53,31 @@ fn answers(rt: &HostRuntime, shape: Shape) -> io::Result<()> {
     let before = pairs(&table);
     let after = pairs(&closed);
     let acyclic = table.is_acyclic();
-    let listed = work(shape, 256, Task::List);
-    let cycle = work(shape, 256, Task::Cycle);
-    let name = shape.name();
+    let listed = listed(&table, 256);
+    let cycle = on_cycle(&table);
     println!(rt;
-        "{name}: {before} pairs, {after} closed, acyclic {acyclic}, {listed} listed, cycle of {cycle}"
+        "{shape}: {before} pairs, {after} closed, acyclic {acyclic}, {listed} listed, cycle of {cycle}"
     )
 }
 
-fn rounds(rt: &HostRuntime) -> io::Result<u32> {
-    for word in env::args(rt)?.skip(1) {
-        if let Ok(number) = word.as_str().parse::<u32>() {
-            return Ok(number);
-        }
-    }
-    Ok(1)
-}
-
 fn main(rt: HostRuntime) -> io::Result<()> {
-    let count = rounds(&rt)?;
+    let rounds = timing::rounds(&rt);
     for shape in Shape::ALL {
         answers(&rt, shape)?;
-        for task in [
-            Task::Build,
-            Task::Close,
-            Task::Test,
-            Task::List,
-            Task::Cycle,
-        ] {
-            measure(&rt, shape, task, count)?;
-        }
+        measure(&rt, rounds, shape, "build", |table, _| {
+            usize::from(table.contains(1, 0))
+        })?;
+        measure(&rt, rounds, shape, "close", |table, _| {
+            table.close();
+            usize::from(table.contains(255, 0)) + usize::from(table.contains(0, 255))
+        })?;
+        measure(&rt, rounds, shape, "is_acyclic", |table, _| {
+            usize::from(table.is_acyclic())
+        })?;
+        measure(&rt, rounds, shape, "list", |table, n| listed(table, n))?;
+        measure(&rt, rounds, shape, "first_cycle", |table, _| {
+            on_cycle(table)
+        })?;
     }
     Ok(())
 }

@@ -3,6 +3,7 @@ ghost use Rattle.std.specs.Prelude.{◌<◌, ◌≤◌};
 
 use event_set::EventSet;
 use relation::Relation;
+use std::fmt;
 
 #[derive(Clone, Copy)]
 pub enum Shape {
@@ -32,18 +33,6 @@ impl Shape {
         Shape::Ring,
         Shape::Both,
     ];
-
-    pub fn name(self) -> &'static str {
-        match self {
-            Shape::Threads => "threads",
-            Shape::Rising => "rising",
-            Shape::Falling => "falling",
-            Shape::Dense => "dense",
-            Shape::Full => "full",
-            Shape::Ring => "ring",
-            Shape::Both => "both",
-        }
-    }
 
     /// The events that the shape, on the first `n` events, pairs `a` with.
     fn row(self, n: usize, a: usize) -> EventSet
@@ -78,6 +67,20 @@ impl Shape {
             table.join_row(a as u8, &self.row(count, a));
         }
         table
+    }
+}
+
+impl fmt::Display for Shape {
+    fn fmt<W: fmt::Write>(&self, f: &mut fmt::Formatter<W>) -> fmt::Result {
+        f.write_str(match self {
+            Shape::Threads => "threads",
+            Shape::Rising => "rising",
+            Shape::Falling => "falling",
+            Shape::Dense => "dense",
+            Shape::Full => "full",
+            Shape::Ring => "ring",
+            Shape::Both => "both",
+        })
     }
 }
 

@@ -1,18 +1,17 @@
 //! C11.
-ghost use Rattle.std.specs.Prelude.{◌≡◌, ◌&&◌, ◌||◌};
+ghost use Rattle.std.specs.Prelude.{◌≡◌, ◌&&◌};
 ghost use Rattle.event.specs.Labels.{mode_of};
 ghost use Rattle.execution.specs.Content.{label_of};
 ghost use Rattle.graph.specs.View.{view};
-ghost use Rattle.relation.specs.Table.{holds, Is};
-ghost use Rattle.boards.specs.C11.{c11, c11_hb, sw, releases, acquires};
+ghost use Rattle.relation.specs.Table.{Is};
+ghost use Rattle.boards.specs.C11.{c11, c11_hb, releases, acquires};
 ghost use Rattle.boards.specs.OfC11.{c11_rules};
 
-use crate::lookup::event_of;
+use crate::synchronising::happens_before_by;
 use event::Mode;
 use graph::Graph;
 use model::laying::{
-    add_at_one_location, add_modification_order, add_program_order, add_reads_before,
-    add_reads_from,
+    add_at_one_location, add_modification_order, add_reads_before, add_reads_from,
 };
 use model::{Model as MemoryModel, Synchronising};
 use relation::Relation;
@@ -53,32 +52,15 @@ impl Synchronising for C11 {
 fn happens_before(graph: &Graph) -> Relation
     ensures { Is result (c11_hb (view graph.now)) }
 {
-    let mut hb = Relation::empty();
-    add_program_order(graph, &mut hb);
-    add_synchronizes_with(graph, &mut hb);
-    hb.close();
-    hb
-}
-
-/// Adds the pairs of reads-from that synchronise.
-fn add_synchronizes_with(graph: &Graph, table: &mut Relation)
-    ensures { Is table.new (λ a b. sw (view graph.now) a b || holds table.old a b) }
-{
-    let sources = graph.sources();
-    for read in 0..sources.len() {
-        if let Some(source) = sources[read] {
-            if synchronizes(graph, source, read as u8) {
-                table.insert(source, read as u8);
-            }
-        }
-    }
+    happens_before_by(graph, |source, read| synchronizes(graph, source, read))
 }
 
 /// Whether the modes of a source and its read synchronise.
 fn synchronizes(graph: &Graph, source: u8, read: u8) -> bool
     ensures { result ≡ (releases (mode_of (label_of (view graph.now) source)) && acquires (mode_of (label_of (view graph.now) read))) }
 {
-    releases(event_of(graph, source).label.mode()) && acquires(event_of(graph, read).label.mode())
+    let mode = |event: u8| graph.label(u32::from(event)).map(|label| label.mode());
+    mode(source).is_some_and(releases) && mode(read).is_some_and(acquires)
 }
 
 fn releases(mode: Mode) -> bool

@@ -4,9 +4,9 @@
 pub mod board;
 pub mod c11;
 pub mod coh;
-mod lookup;
 pub mod ra;
 pub mod sc;
+mod synchronising;
 pub mod tso;
 
 pub use board::Board;

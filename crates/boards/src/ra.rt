@@ -6,11 +6,9 @@ ghost use Rattle.relation.specs.Table.{holds, Is};
 ghost use Rattle.boards.specs.Ra.{ra, ra_hb};
 ghost use Rattle.boards.specs.OfRa.{ra_rules};
 
+use crate::synchronising::happens_before_by;
 use graph::Graph;
-use model::laying::{
-    add_at_one_location, add_modification_order, add_program_order, add_reads_before,
-    add_reads_from,
-};
+use model::laying::{add_at_one_location, add_modification_order, add_reads_before};
 use model::{Model as MemoryModel, Synchronising};
 use relation::Relation;
 
@@ -56,9 +54,5 @@ fn add_happens_before_at_one_location(graph: &Graph, table: &mut Relation)
 fn happens_before(graph: &Graph) -> Relation
     ensures { Is result (ra_hb (view graph.now)) }
 {
-    let mut hb = Relation::empty();
-    add_program_order(graph, &mut hb);
-    add_reads_from(graph, &mut hb);
-    hb.close();
-    hb
+    happens_before_by(graph, |_, _| true)
 }

@@ -1,19 +1,21 @@
 //! TSO: total store order.
-ghost use Rattle.std.specs.Prelude.{◌≡◌, not, ◌||◌, ◌==◌};
-ghost use Rattle.execution.specs.Content.{label_of, thread_of};
+ghost use Rattle.std.specs.Prelude.{◌≡◌, ◌<◌, not, ◌&&◌, ◌||◌, length, ◌==◌};
+ghost use Rattle.execution.specs.Content.{thread_of};
 ghost use Rattle.graph.specs.View.{view};
-ghost use Rattle.event_set.specs.Sets.{HasJust};
+ghost use Rattle.event_set.specs.Sets.{has, HasJust};
 ghost use Rattle.relation.specs.Table.{holds, Is};
 ghost use Rattle.boards.specs.Tso.{tso, ppo, rfe, plain_write, plain_read};
 ghost use Rattle.boards.specs.OfTso.{tso_rules};
 
 use crate::coh::Coh;
-use crate::lookup::event_of;
 use event::Label;
 use event_set::EventSet;
 use graph::Graph;
 use model::Model as MemoryModel;
-use model::laying::{add_modification_order, add_program_order, add_reads_before};
+use model::laying::{
+    add_modification_order, add_program_order, add_reads_before, add_reads_from_where, add_rows,
+    events_where,
+};
 use relation::Relation;
 
 /// A write may be delayed past later reads of its thread.
@@ -46,47 +48,48 @@ fn add_preserved_program_order(graph: &Graph, table: &mut Relation)
 {
     let mut po = Relation::empty();
     add_program_order(graph, &mut po);
-    let reads = plain_reads(graph);
-    for a in 0..graph.events().len() {
-        let mut later = po.row(a as u8);
-        if is_plain_write(event_of(graph, a as u8).label) {
-            later.difference_with(&reads);
-        }
-        table.join_row(a as u8, &later);
+    let writes = events_where(graph, is_plain_write);
+    let reads = events_where(graph, is_plain_read);
+    add_rows(graph, |a| preserved_row(&po, &writes, &reads, a), table);
+}
+
+/// All that is after an event, but after a plain write no plain read.
+fn preserved_row(po: &Relation, writes: &EventSet, reads: &EventSet, a: u8) -> EventSet
+    ensures { HasJust result (λ b. holds po.now a b && not (has writes.now a && has reads.now b)) }
+{
+    let mut row = po.row(a);
+    if writes.contains(a) {
+        row.difference_with(reads);
     }
+    row
 }
 
 /// Adds the pairs of reads-from between different threads.
 fn add_external_reads_from(graph: &Graph, table: &mut Relation)
     ensures { Is table.new (λ a b. rfe (view graph.now) a b || holds table.old a b) }
 {
-    let sources = graph.sources();
-    for read in 0..sources.len() {
-        if let Some(source) = sources[read] {
-            if different_threads(graph, source, read as u8) {
-                table.insert(source, read as u8);
-            }
-        }
-    }
+    add_reads_from_where(
+        graph,
+        |source, read| different_threads(graph, source, read),
+        table,
+    );
 }
 
+/// Whether two events that stand are of different threads.
 fn different_threads(graph: &Graph, a: u8, b: u8) -> bool
-    ensures { result ≡ not (thread_of (view graph.now) a == thread_of (view graph.now) b) }
+    ensures { a < length (view graph.now).events → b < length (view graph.now).events → result ≡ not (thread_of (view graph.now) a == thread_of (view graph.now) b) }
 {
-    event_of(graph, a).thread != event_of(graph, b).thread
+    thread_of(graph, a) != thread_of(graph, b)
 }
 
-/// The reads that are no updates.
-fn plain_reads(graph: &Graph) -> EventSet
-    ensures { HasJust result (λ a. plain_read (label_of (view graph.now) a)) }
+/// The thread of an event, if it stands.
+fn thread_of(graph: &Graph, event: u8) -> Option<u8>
+    ensures { event < length (view graph.now).events → result ≡ Some (thread_of (view graph.now) event) }
 {
-    let mut reads = EventSet::empty();
-    for a in 0..graph.events().len() {
-        if is_plain_read(event_of(graph, a as u8).label) {
-            reads.insert(a as u8);
-        }
-    }
-    reads
+    graph
+        .events()
+        .get(usize::from(event))
+        .map(|event| event.thread)
 }
 
 fn is_plain_write(label: Label) -> bool

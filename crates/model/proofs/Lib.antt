@@ -3,3 +3,4 @@ pub mod Places
 pub mod Sweeps
 pub mod Parts
 pub mod Threads
+pub mod Links

@@ -2,7 +2,7 @@
 use Rattle.std.proofs.Common.{◌≡◌, ℕ, ◌<◌, ◌≤◌, Bool, false, cond, not, ◌&&◌, T, eqb, ltb, List, length, get_or, Some, None, Option, sym, refl, ap, ◌∙◌, subst, inl, inr, arith}
 use lib.ListN.{get_or-eq_default}
 use Rattle.std.proofs.lemmas.List.{get_or_default}
-use Rattle.std.proofs.lemmas.Bool.{cases_lt}
+use Rattle.std.proofs.lemmas.Bool.{cases_lt, lt-ltb, le-ltb}
 use Rattle.std.proofs.lemmas.Bool.Decides.{nat_tests}
 use Rattle.event.specs.declared.event.Label.{Label}
 use Rattle.event.specs.Labels.{no_event, agree, location}
@@ -39,11 +39,12 @@ fence_among g a h = elim (cases_lt a (length g.events)) [
   | inr l ↦ absurd (subst (λ e. T (strong_fence e.label)) (get_or-eq_default g.events no_event l) h)
 ]
 
--- what a lookup that found nothing says
-pub location_none : (g : Content) (a : ℕ) (l : Label) → None ≡ cond (ltb a (length g.events)) (Some l) None → None ≡ location (label_of g a)
-location_none g a l h = elim (cases_lt a (length g.events)) [
-  | inl k ↦ absurd (grind (arith, nat_tests))
-  | inr k ↦ sym (location_past g a k)
+-- what is made of a label that is looked up
+pub of_label : {A : Type 0} (f : Label → A) (g : Content) (a : ℕ) (o : Option Label) (r : A) → o ≡ cond (ltb a (length g.events)) (Some (label_of g a)) None
+    → ((l : Label) → o ≡ Some l → r ≡ f l) → (o ≡ None → r ≡ f no_event.label) → r ≡ f (label_of g a)
+of_label f g a o r e some none = elim (cases_lt a (length g.events)) [
+  | inl k ↦ some (label_of g a) (e ∙ ap (λ b. cond b (Some (label_of g a)) None) (lt-ltb a (length g.events) k))
+  | inr k ↦ none (e ∙ ap (λ b. cond b (Some (label_of g a)) None) (le-ltb a (length g.events) k)) ∙ sym (ap (λ e. f e.label) (get_or-eq_default g.events no_event k))
 ]
 
 -- the accesses of one location with an event, which accesses it or none

@@ -1,5 +1,5 @@
 -- A layer of a growing relation keeps the rules, and both layers are such.
-use Rattle.std.specs.Prelude.{◌≡◌, ℕ, ◌<◌, Bool, true, false, ◌&&◌, ◌||◌, ◌==◌, nat_lt}
+use Rattle.std.specs.Prelude.{◌≡◌, ℕ, ◌<◌, Bool, ◌&&◌, ◌||◌, ◌==◌, nat_lt}
 use Rattle.std.proofs.Common.{ap₂, inl, inr, arith, ltb→lt}
 use Rattle.std.proofs.lemmas.Bool.Decides.{nat_tests}
 use Rattle.execution.specs.Content.{Content, thread_of, label_of, po}
@@ -40,13 +40,6 @@ layer_rules r m p below = record {
 pub fenced_grows : Grows fenced
 fenced_grows = part po (λ g a b. strong_fence (label_of g a) || strong_fence (label_of g b)) po_grows
     (λ g h i a b k l. ap₂ (λ x y. strong_fence x || strong_fence y) (label_within g h i a k) (label_within g h i b l))
-
--- the row of a fence of mode 5, and of any other event
-pub fence_row : (p f e : Bool) → f ≡ true → p ≡ (p && (f || e))
-fence_row p f e h = grind arith
-
-pub other_row : (p f e : Bool) → f ≡ false → (p && e) ≡ (p && (f || e))
-other_row p f e h = grind arith
 
 pub within_threads_grows : (threads : ℕ) → Grows (within_threads threads)
 within_threads_grows threads = part po (λ g a b. (thread_of g a == thread_of g b) && has_thread threads (thread_of g a)) po_grows

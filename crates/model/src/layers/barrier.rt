@@ -1,15 +1,14 @@
 //! The barrier layer: fences of mode 5 keep program order.
-ghost use Rattle.std.specs.Prelude.{◌≡◌, ◌||◌};
-ghost use Rattle.execution.specs.Content.{label_of};
+ghost use Rattle.std.specs.Prelude.{◌≡◌, ◌&&◌, ◌||◌};
 ghost use Rattle.graph.specs.View.{view};
-ghost use Rattle.event_set.specs.Sets.{HasJust};
+ghost use Rattle.event_set.specs.Sets.{has, HasJust};
 ghost use Rattle.relation.specs.Table.{holds, Is};
 ghost use Rattle.model.specs.Meaning.{Over};
 ghost use Rattle.model.specs.Layers.{strong_fence, fenced, barrier, Piles};
 ghost use Rattle.model.specs.Layered.{layer_rules, fenced_grows};
 
 use crate::interface::Model as MemoryModel;
-use crate::laying::program_order::add_program_order;
+use crate::laying::{add_program_order, add_rows, events_where};
 use event::{Label, Mode};
 use event_set::EventSet;
 use graph::Graph;
@@ -54,35 +53,23 @@ fn add_fenced(graph: &Graph, table: &mut Relation)
 {
     let mut order = Relation::empty();
     add_program_order(graph, &mut order);
-    let fences = strong_fences(graph);
-    for a in 0..graph.events().len() {
-        let mut row = order.row(a as u8);
-        if !fences.contains(a as u8) {
-            row.intersect_with(&fences);
-        }
-        table.join_row(a as u8, &row);
-    }
+    let fences = events_where(graph, is_strong_fence);
+    add_rows(graph, |a| fenced_row(&order, &fences, a), table);
 }
 
-/// The fences of mode 5.
-fn strong_fences(graph: &Graph) -> EventSet
-    ensures { HasJust result (λ a. strong_fence (label_of (view graph.now) a)) }
+/// All that is after a fence, and the fences after any other event.
+fn fenced_row(order: &Relation, fences: &EventSet, a: u8) -> EventSet
+    ensures { HasJust result (λ b. holds order.now a b && (has fences.now a || has fences.now b)) }
 {
-    let events = graph.events();
-    let mut fences = EventSet::empty();
-    for a in 0..events.len() {
-        if is_strong_fence(events[a].label) {
-            fences.insert(a as u8);
-        }
+    let mut row = order.row(a);
+    if !fences.contains(a) {
+        row.intersect_with(fences);
     }
-    fences
+    row
 }
 
 fn is_strong_fence(label: Label) -> bool
     ensures { result ≡ strong_fence label }
 {
-    match label {
-        Label::Fence { mode: Mode::SeqCst } => true,
-        _ => false,
-    }
+    matches!(label, Label::Fence { mode: Mode::SeqCst })
 }

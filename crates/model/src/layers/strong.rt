@@ -52,9 +52,8 @@ fn add_within_threads(graph: &Graph, threads: u16, table: &mut Relation)
 {
     let mut order = Relation::empty();
     add_thread_order(graph, &mut order);
-    let events = graph.events();
-    for a in 0..events.len() {
-        if has_thread(threads, events[a].thread) {
+    for (a, event) in graph.events().iter().enumerate() {
+        if has_thread(threads, event.thread) {
             table.join_row(a as u8, &order.row(a as u8));
         }
     }

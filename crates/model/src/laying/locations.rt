@@ -12,10 +12,9 @@ use relation::Relation;
 pub fn location_of(graph: &Graph, event: u8) -> Option<u8>
     ensures of_every_access { result ≡ location (label_of (view graph.now) event) }
 {
-    match graph.label(event as u32) {
-        Some(label) => label.location(),
-        None => None,
-    }
+    graph
+        .label(u32::from(event))
+        .and_then(|label| label.location())
 }
 
 /// Adds the pairs of `order` that join accesses of one location.
@@ -23,8 +22,8 @@ pub fn add_at_one_location(graph: &Graph, order: &Relation, table: &mut Relation
     ensures adds_exactly_those_of_one_location { Is table.new (λ a b. (holds order.now a b && same_location (view graph.now) a b) || holds table.old a b) }
 {
     let accesses = accesses_by_location(graph);
-    for a in 0..graph.events().len() {
-        if let Some(location) = location_of(graph, a as u8) {
+    for (a, event) in graph.events().iter().enumerate() {
+        if let Some(location) = event.label.location() {
             let mut row = order.row(a as u8);
             row.intersect_with(&accesses.row(location));
             table.join_row(a as u8, &row);
@@ -37,8 +36,8 @@ fn accesses_by_location(graph: &Graph) -> Relation
     ensures { Is result (λ l b. agree (location (label_of (view graph.now) b)) (Some l)) }
 {
     let mut accesses = Relation::empty();
-    for a in 0..graph.events().len() {
-        if let Some(location) = location_of(graph, a as u8) {
+    for (a, event) in graph.events().iter().enumerate() {
+        if let Some(location) = event.label.location() {
             accesses.insert(location, a as u8);
         }
     }

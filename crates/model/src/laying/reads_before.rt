@@ -14,9 +14,8 @@ pub fn add_reads_before(graph: &Graph, table: &mut Relation)
 {
     let mut order = Relation::empty();
     add_modification_order(graph, &mut order);
-    let sources = graph.sources();
-    for read in 0..sources.len() {
-        if let Some(source) = sources[read] {
+    for (read, source) in graph.sources().iter().enumerate() {
+        if let Some(source) = *source {
             let mut overwriting = order.row(source);
             overwriting.remove(read as u8);
             table.join_row(read as u8, &overwriting);

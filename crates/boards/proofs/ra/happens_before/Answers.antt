@@ -1,16 +1,13 @@
+use Rattle.std.proofs.Common.{◌≡◌, true, sym, ◌∙◌, rules}
+use Rattle.execution.specs.Content.{rf}
 use Rattle.graph.specs.View.{view}
-use Rattle.graph.proofs.Soundness.{sound_of}
-use Rattle.relation.specs.Table.{holds}
-use Rattle.boards.specs.Relations.{◌∪◌}
-use Rattle.execution.specs.Content.{po, rf}
-use Rattle.boards.proofs.Laid.{two}
-use Rattle.boards.specs.Stepping.{closed}
-use Rattle.boards.specs.OfRa.{po_or_rf_grows}
+use Rattle.execution.proofs.Tests.{is_true}
 use Rattle.boards.proofs.ra.happens_before.Goals as goal
 
 pub returns : goal.returns
 returns c =
     let g = view c.args.graph.now in
-    closed g (po g ∪ rf g) _ (holds c.close.new.self) (λ a b h. (po_or_rf_grows.inside g (sound_of c.args.graph.now) a b h).1)
-    (λ a b. two _ _ _ (po g a b) (rf g a b) (c.empty-hb.ensures.holds_no_pair a b) (c.add_program_order.ensures.adds_exactly_program_order a b) (c.add_reads_from.ensures.adds_exactly_reads_from a b))
-    c.close.ensures.holds_just_what_one_or_more_steps_join
+    c.happens_before_by.ensures.one_or_more_steps (rf g) (record {
+      within = λ a b h. h;
+      told = λ a b p h q. let e : p ≡ true = search rules in e ∙ sym (is_true (rf g a b) h);
+    })

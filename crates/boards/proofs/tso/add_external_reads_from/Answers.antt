@@ -1,41 +1,20 @@
-use Rattle.std.proofs.Common.{◌≡◌, ℕ, ◌+◌, Bool, not, eqb, List, length, get_or, None, Option, sym, refl, ap, ◌∙◌, subst, arith}
-use Rattle.execution.specs.Content.{thread_of, source_of, rf}
+use Rattle.std.proofs.Common.{◌≡◌, ◌<◌, Bool, not, ◌&&◌, eqb, length, sym, ap, ◌∙◌, rules}
+use Rattle.execution.specs.Content.{thread_of, rf}
 use Rattle.graph.specs.View.{view}
-use Rattle.execution.proofs.Tests.{left}
-use Rattle.execution.proofs.Among.{link_among}
-use Rattle.relation.specs.declared.table.Relation.{Relation}
-use Rattle.model.proofs.Rows.{no_rest}
+use Rattle.graph.proofs.Soundness.{sound_of}
+use Rattle.execution.proofs.Tests.{left, is_true}
+use Rattle.model.specs.Growing.{rf_grows}
 use Rattle.boards.specs.Tso.{rfe}
-use Rattle.boards.proofs.Laid.{Links, link_added, link_left_out, no_link}
 use Rattle.boards.proofs.tso.add_external_reads_from.Goals as goal
-use Rattle.boards.proofs.tso.add_external_reads_from.Goals.{in-Some+then-different_threads, in-Some+else-different_threads, in_default}
-
--- the source of the read of this turn
-source_here : (c : goal.Joined-sources-read) → source_of (view c.args.graph.now) c.loop-read.read ≡ get_or c.sources-sources.result.now c.loop-read.read None
-source_here c = ap (λ (xs : List (Option ℕ)). get_or xs c.loop-read.read None) (sym c.sources-sources.ensures.all_sources_in_order)
-
-pub loop-read-preserved : goal.loop-read-preserved
-loop-read-preserved c =
-    let g = view c.args.graph.now in
-    let read = c.loop-read.read in
-    let entry = c.args.table.now in
-    let source = source_of g read in
-    let across : ℕ → Bool = λ x. not (eqb (thread_of g x) (thread_of g read)) in
-    let same : (x : ℕ) → rfe g x read ≡ rfe g x read = λ x. refl in
-    let more : Relation → Type 0 = λ t. Links (rfe g) entry read source across same t (read + 1) in
-    elim c.match-sources-read.branch [
-      | in-Some+then-different_threads w ↦ subst more (sym w.table-is)
-          (link_added (rfe g) entry read source across same c.loop-read.table w.insert.new.self w.in-Some.source (source_here c ∙ w.in-Some.is)
-          (sym w.different_threads.ensures ∙ w.if-different_threads.true) c.loop-read.invariant w.insert.ensures.adds_just_this_pair)
-      | in-Some+else-different_threads w ↦ subst more (sym w.table-is)
-          (link_left_out (rfe g) entry read source across same c.loop-read.table w.in-Some.source (source_here c ∙ w.in-Some.is)
-          (sym w.different_threads.ensures ∙ w.if-different_threads.false) c.loop-read.invariant)
-      | in_default w ↦ subst more (sym w.table-is)
-          (no_link (rfe g) entry read source across same c.loop-read.table (λ x h. w.in_default.not-Some x (sym (source_here c) ∙ h)) c.loop-read.invariant)
-    ]
 
 pub returns : goal.returns
 returns c =
     let g = view c.args.graph.now in
-    let many = ap (length {A = Option ℕ}) c.sources-sources.ensures.all_sources_in_order in
-    λ a b. no_rest (length g.sources) c.loop-read.read b _ _ (rfe g a b) (omega (arith, many)) (λ h. link_among g a b (left (rf g a b) _ h)) (c.loop-read.invariant a b)
+    c.add_reads_from_where.ensures.adds_exactly_those_that_pass (rfe g) (record {
+      within = λ a b. left (rf g a b) _;
+      told = λ a b p h q.
+          let n = rf_grows.inside g (sound_of c.args.graph.now) a b h in
+          let apart : Bool = not (eqb (thread_of g a) (thread_of g b)) in
+          let e : a < length g.events → b < length g.events → p ≡ apart = search rules in
+          e n.0 n.1 ∙ sym (ap (λ x. x && apart) (is_true (rf g a b) h));
+    })

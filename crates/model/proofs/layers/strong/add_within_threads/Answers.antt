@@ -25,7 +25,7 @@ loop-a-preserved c =
     let r = within_threads threads g in
     let first = initial_thread g (sound_of c.args.graph.now) a in
     let order = into_empty (thread_order g) _ _ c.empty-order.ensures.holds_no_pair c.add_thread_order.ensures.adds_each_thread_by_number in
-    let event = at_any c.events-events.result.now g.events a _ no_event c.events-events.ensures.all_events_in_order c.loop-a-test.true in
+    let event = at_any c.events-event-items.result.now g.events a _ no_event c.events-event-items.ensures.all_events_in_order c.loop-a-test.true in
     let here : has_thread threads t ≡ c.has_thread.result = sym (c.has_thread.ensures ∙ ap (λ (e : Event). has_thread threads e.thread) event) in
     elim c.if-has_thread.branch [
       | then-has_thread w ↦
@@ -47,5 +47,5 @@ returns c =
     let g = view c.args.graph.now in
     let threads = c.args.threads in
     let all = (within_threads_grows threads).inside g (sound_of c.args.graph.now) in
-    let many = ap length c.events-events.ensures.all_events_in_order in
+    let many = ap length c.events-event-items.ensures.all_events_in_order in
     all_rows (within_threads threads g) _ _ (length g.events) c.loop-a.a (omega (arith, many)) (λ x y h. (all x y h).0) c.loop-a.invariant

@@ -14,9 +14,9 @@ loop-read-preserved c =
     let g = view c.args.graph.now in
     let entry = c.args.table.now in
     let a = c.loop-read.read in
-    let source = sym (ap (λ (xs : List (Option ℕ)). get_or xs a None) c.sources-sources.ensures.all_sources_in_order) in
+    let source = sym (ap (λ (xs : List (Option ℕ)). get_or xs a None) c.sources-source-items.ensures.all_sources_in_order) in
     let order = into_empty (mo g) _ _ c.empty-order.ensures.holds_no_pair c.add_modification_order.ensures.adds_exactly_modification_order in
-    elim c.match-sources-read.branch [
+    elim c.match-source.branch [
       | in-Some w ↦
           subst (λ (t : Relation). Rows (rb g) entry t (a + 1)) (sym w.table-is)
           (one_row (rb g) entry _ _ a _
@@ -33,7 +33,7 @@ loop-read-preserved c =
 pub returns : goal.returns
 returns c =
     let g = view c.args.graph.now in
-    let many = ap length c.sources-sources.ensures.all_sources_in_order in
+    let many = ap length c.sources-source-items.ensures.all_sources_in_order in
     record {
       adds_exactly_reads_before = all_rows (rb g) _ _ (length g.sources) c.loop-read.read (omega (arith, many))
           (λ x y h. let w = rb_source g x y h in link_among g w.0 x w.1) c.loop-read.invariant;

@@ -2,7 +2,7 @@
 #![tactic(auto)]
 
 use boards::{Board, C11, Ra};
-use event::{Arguments, Denial, Kind, Size};
+use event::{Denial, Kind, Size};
 use graph::{Graph, Open};
 use model::{Model, Synchronising};
 use relation::Relation;
@@ -18,26 +18,6 @@ const ACQUIRE_RELEASE: u32 = 4;
 
 const SEQ_CST: u32 = 5;
 
-fn read(thread: u32, location: u32, value: u32, mode: u32) -> Arguments {
-    Arguments {
-        thread,
-        location,
-        read: value,
-        written: 0,
-        mode,
-    }
-}
-
-fn write(thread: u32, location: u32, value: u32, mode: u32) -> Arguments {
-    Arguments {
-        thread,
-        location,
-        read: 0,
-        written: value,
-        mode,
-    }
-}
-
 /// Message passing that reads an old value, with an update, a fence, a read of its own thread's write and an open write.
 ///
 /// The initial writes of x and y are 0 and 1. Thread 1 has 2: x := 1, 3: y := 1, 8: x := 9 and 9, which reads 8.
@@ -45,21 +25,14 @@ fn write(thread: u32, location: u32, value: u32, mode: u32) -> Arguments {
 /// The modification order of x is 0, 5, 2, and 8 is open; that of y is 1, 3.
 fn message_passing(mode: u32) -> Result<Open, Denial> {
     let mut open = Open::new(Size::new(2, 2)?);
-    open.record(Kind::Write, write(1, 0, 1, RELAXED))?;
-    open.record(Kind::Write, write(1, 1, 1, RELEASE))?;
-    open.record(Kind::Read, read(2, 1, 1, mode))?;
-    let update = Arguments {
-        thread: 2,
-        location: 0,
-        read: 0,
-        written: 5,
-        mode: ACQUIRE_RELEASE,
-    };
-    open.record(Kind::Update, update)?;
-    open.record(Kind::Fence, read(2, 0, 0, SEQ_CST))?;
-    open.record(Kind::Read, read(2, 0, 5, RELAXED))?;
-    open.record(Kind::Write, write(1, 0, 9, RELAXED))?;
-    open.record(Kind::Read, read(1, 0, 9, RELAXED))?;
+    open.record(Kind::Write, [1, 0, 0, 1, RELAXED].into())?;
+    open.record(Kind::Write, [1, 1, 0, 1, RELEASE].into())?;
+    open.record(Kind::Read, [2, 1, 1, 0, mode].into())?;
+    open.record(Kind::Update, [2, 0, 0, 5, ACQUIRE_RELEASE].into())?;
+    open.record(Kind::Fence, [2, 0, 0, 0, SEQ_CST].into())?;
+    open.record(Kind::Read, [2, 0, 5, 0, RELAXED].into())?;
+    open.record(Kind::Write, [1, 0, 0, 9, RELAXED].into())?;
+    open.record(Kind::Read, [1, 0, 9, 0, RELAXED].into())?;
     join(&mut open)?;
     Ok(open)
 }
@@ -79,10 +52,10 @@ fn join(open: &mut Open) -> Result<(), Denial> {
 /// Thread 1 has 2, which reads 5, and 3: y := 1. Thread 2 has 4, which reads 3, and 5: x := 1. Both writes are open.
 fn load_buffering() -> Result<Open, Denial> {
     let mut open = Open::new(Size::new(2, 2)?);
-    open.record(Kind::Read, read(1, 0, 1, RELAXED))?;
-    open.record(Kind::Write, write(1, 1, 1, RELAXED))?;
-    open.record(Kind::Read, read(2, 1, 1, RELAXED))?;
-    open.record(Kind::Write, write(2, 0, 1, RELAXED))?;
+    open.record(Kind::Read, [1, 0, 1, 0, RELAXED].into())?;
+    open.record(Kind::Write, [1, 1, 0, 1, RELAXED].into())?;
+    open.record(Kind::Read, [2, 1, 1, 0, RELAXED].into())?;
+    open.record(Kind::Write, [2, 0, 0, 1, RELAXED].into())?;
     open.link(2, 5)?;
     open.link(4, 3)?;
     Ok(open)
@@ -107,7 +80,7 @@ fn show(rt: &impl Print, table: &Relation) -> io::Result<()> {
 fn show_model(rt: &impl Print, number: u32, graph: &Graph) -> io::Result<()> {
     match Board::try_from(number) {
         Ok(board) => {
-            for order in 0..board.orders() + 1 {
+            for order in 0..=board.orders() {
                 let mut table = Relation::empty();
                 table.insert(9, 0);
                 board.lay(graph, order, &mut table);
@@ -116,10 +89,7 @@ fn show_model(rt: &impl Print, number: u32, graph: &Graph) -> io::Result<()> {
             }
             Ok(())
         }
-        Err(denial) => {
-            let number_of_denial = denial.number();
-            println!(rt; "model {number}: denial {number_of_denial}")
-        }
+        Err(denial) => println!(rt; "model {number}: denial {}", denial.number()),
     }
 }
 

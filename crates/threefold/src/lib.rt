@@ -21,7 +21,7 @@ use relation::Relation;
 
 /// Coherence, no cycle of program order and reads-from, and none of program order and modification order.
 #[derive(Clone, Copy)]
-pub struct Threefold {}
+pub struct Threefold;
 
 impl MemoryModel for Threefold {
     ghost meaning = { λ _. threefold };

@@ -1,32 +1,22 @@
 //! Orders and layers of one graph, worked out by hand.
 use crate::Threefold;
-use event::{Arguments, Kind, Size};
+use event::{Kind, Size};
 use graph::Open;
 use model::{Barrier, Model, Strong, Synchronising};
 use relation::Relation;
 use std::test::Fail;
 
-fn arguments(thread: u32, location: u32, read: u32, written: u32, mode: u32) -> Arguments {
-    Arguments {
-        thread,
-        location,
-        read,
-        written,
-        mode,
-    }
-}
-
 /// Events 0 and 1 are the initial writes of x and y. Thread 1 writes x and, past a fence of mode 5, reads y from its initial write: 2, 3, 4.
 /// Thread 2 updates x from that write and, past a fence of mode 4, writes x and reads it from its initial write: 5, 6, 7, 8. Write 7 is not placed.
 fn example() -> Result<Open, Fail> {
     let mut open = Open::new(Size::new(2, 2)?);
-    open.record(Kind::Write, arguments(1, 0, 0, 1, 1))?;
-    open.record(Kind::Fence, arguments(1, 0, 0, 0, 5))?;
-    open.record(Kind::Read, arguments(1, 1, 0, 0, 1))?;
-    open.record(Kind::Update, arguments(2, 0, 1, 2, 4))?;
-    open.record(Kind::Fence, arguments(2, 0, 0, 0, 4))?;
-    open.record(Kind::Write, arguments(2, 0, 0, 3, 1))?;
-    open.record(Kind::Read, arguments(2, 0, 0, 0, 1))?;
+    open.record(Kind::Write, [1, 0, 0, 1, 1].into())?;
+    open.record(Kind::Fence, [1, 0, 0, 0, 5].into())?;
+    open.record(Kind::Read, [1, 1, 0, 0, 1].into())?;
+    open.record(Kind::Update, [2, 0, 1, 2, 4].into())?;
+    open.record(Kind::Fence, [2, 0, 0, 0, 4].into())?;
+    open.record(Kind::Write, [2, 0, 0, 3, 1].into())?;
+    open.record(Kind::Read, [2, 0, 0, 0, 1].into())?;
     open.link(4, 1)?;
     open.link(5, 2)?;
     open.link(8, 0)?;
@@ -61,20 +51,13 @@ fn coherence() -> Relation {
 }
 
 fn add(pairs: &mut Relation, first: u8, seconds: &[u8]) {
-    for second in seconds {
-        pairs.insert(first, *second);
+    for &second in seconds {
+        pairs.insert(first, second);
     }
 }
 
 fn same(table: &Relation, expected: &Relation) -> bool {
-    for a in 0..256usize {
-        for b in 0..256usize {
-            if table.contains(a as u8, b as u8) != expected.contains(a as u8, b as u8) {
-                return false;
-            }
-        }
-    }
-    true
+    (0..=u8::MAX).all(|a| (0..=u8::MAX).all(|b| table.contains(a, b) == expected.contains(a, b)))
 }
 
 #[test]
@@ -82,27 +65,27 @@ fn orders_are_laid_whatever_the_table_held(rt: HostRuntime) -> Result<(), Fail> 
     let open = example()?;
     let mut table = Relation::empty();
     table.insert(200, 7);
-    Threefold {}.lay(open.graph(), 0, &mut table);
+    Threefold.lay(open.graph(), 0, &mut table);
     assert!(rt; same(&table, &coherence()));
     let mut expected = program_order();
     expected.insert(2, 5);
-    Threefold {}.lay(open.graph(), 1, &mut table);
+    Threefold.lay(open.graph(), 1, &mut table);
     assert!(rt;
         same(&table, &expected),
         "the other links are in program order"
     );
-    Threefold {}.lay(open.graph(), 2, &mut table);
+    Threefold.lay(open.graph(), 2, &mut table);
     assert!(rt;
         same(&table, &expected),
         "the other placements are in program order"
     );
-    Threefold {}.lay(open.graph(), 3, &mut table);
+    Threefold.lay(open.graph(), 3, &mut table);
     assert!(rt;
         same(&table, &Relation::empty()),
         "orders beyond the last are empty"
     );
     table.insert(200, 7);
-    Threefold {}.lay_happens_before(open.graph(), &mut table);
+    Threefold.lay_happens_before(open.graph(), &mut table);
     assert!(rt; same(&table, &program_order()));
     Ok(())
 }
@@ -110,7 +93,7 @@ fn orders_are_laid_whatever_the_table_held(rt: HostRuntime) -> Result<(), Fail> 
 #[test]
 fn a_barrier_adds_what_a_fence_of_mode_5_orders(rt: HostRuntime) -> Result<(), Fail> {
     let open = example()?;
-    let barrier = Barrier::new(Threefold {});
+    let barrier = Barrier::new(Threefold);
     let mut table = Relation::empty();
     barrier.lay(open.graph(), 0, &mut table);
     let mut expected = coherence();
@@ -136,7 +119,7 @@ fn a_barrier_adds_what_a_fence_of_mode_5_orders(rt: HostRuntime) -> Result<(), F
 fn a_strong_thread_keeps_its_order(rt: HostRuntime) -> Result<(), Fail> {
     let open = example()?;
     let mut table = Relation::empty();
-    Strong::new(Threefold {}, 0b10).lay(open.graph(), 0, &mut table);
+    Strong::new(Threefold, 0b10).lay(open.graph(), 0, &mut table);
     let mut expected = coherence();
     add(&mut expected, 5, &[6]);
     add(&mut expected, 6, &[7, 8]);

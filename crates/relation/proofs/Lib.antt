@@ -1,4 +1,4 @@
 pub mod Words
 pub mod Same
 pub mod Unwinding
-pub mod Sequenced
+pub mod Appended

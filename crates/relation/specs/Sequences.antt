@@ -1,7 +1,8 @@
 -- A bounded sequence of events.
-use Rattle.std.specs.Prelude.{ℕ, List, take}
-use Rattle.relation.specs.declared.sequence.Sequence.{Sequence}
+use Rattle.std.specs.Prelude.{ℕ, List}
+use Rattle.sequence.specs.Sequences.{items}
+use Rattle.sequence.specs.declared.sequence.Sequence.{Sequence}
 
 -- the events in their order
-unfoldable pub events : Sequence → List ℕ
-events s = take s.len s.places
+abbrev pub events : Sequence ℕ 256 → List ℕ
+events s = items s

@@ -1,5 +1,5 @@
 //! The cycle that is shown: the shortest, and of those the first by event numbers.
-ghost use Rattle.std.specs.Prelude.{◌≡◌, ℕ, ◌<◌, ◌≤◌, false, T, IfSome, Decides, MatchOption};
+ghost use Rattle.std.specs.Prelude.{◌≡◌, ℕ, ◌<◌, ◌≤◌, false, T, IfSome, IsSomeAnd, Decides, MatchOption};
 ghost use Rattle.event_set.specs.Sets.{has};
 ghost use Rattle.relation.specs.Table.{holds};
 ghost use Rattle.cycles.specs.Steps.{Then};
@@ -7,7 +7,7 @@ ghost use Rattle.cycles.specs.Cycles.{Acyclic, Cyclic, FirstCycle, FirstReturn, 
 ghost use Rattle.relation.specs.Sequences.{events};
 ghost use Rattle.cycles.specs.Laws.{OneFirstCycle};
 
-use crate::sequence::Sequence;
+use crate::Sequence;
 use crate::table::Relation;
 use event_set::EventSet;
 
@@ -27,7 +27,7 @@ impl Relation {
         let mut ways = *self;
         for between in 0..256usize {
             if let Some(start) = ways.lowest_return() {
-                return Some(self.told_from(start, between));
+                return self.told_from(start, between);
             }
             ways = self.composed(&ways);
         }
@@ -68,24 +68,21 @@ impl Relation {
         all
     }
 
-    /// The first way from `start` by `between` events back to it.
-    fn told_from(&self, start: u8, between: usize) -> Sequence
+    /// The first way from `start` by `between` events back to it: there is one, and it fits.
+    fn told_from(&self, start: u8, between: usize) -> Option<Sequence>
         requires few { between < 256 }
         requires first { FirstReturn (holds self.now) between start }
-        ensures { FirstCycle (holds self.now) (events result) }
+        ensures { IsSomeAnd result (λ s. FirstCycle (holds self.now) (events s)) }
     {
         let ways = self.ways_to(start, between);
-        let mut cycle = Sequence::empty();
-        cycle.push(start);
+        let mut cycle = Sequence::empty(0);
+        cycle.push(start).ok()?;
         let mut here = start;
         for k in (0..between).rev() {
-            let Some(event) = self.lowest_into(here, ways.row(k as u8)) else {
-                unreachable()
-            };
-            cycle.push(event);
-            here = event;
+            here = self.lowest_into(here, ways.row(k as u8))?;
+            cycle.push(here).ok()?;
         }
-        cycle
+        Some(cycle)
     }
 
     /// Row k, for each k below `limit`: the events from which a way by k events leads to `target`.

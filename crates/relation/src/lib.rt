@@ -5,8 +5,9 @@ mod acyclic;
 mod closing;
 mod first_cycle;
 mod listing;
-mod sequence;
 mod table;
 
-pub use sequence::Sequence;
 pub use table::Relation;
+
+/// Events in an order: a cycle that is told, or a list.
+pub type Sequence = sequence::Sequence<u8, 256>;

@@ -7,7 +7,7 @@ ghost use Rattle.cycles.specs.Listings.{among, Listing};
 ghost use Rattle.relation.specs.Sequences.{events};
 ghost use Rattle.cycles.specs.Laws.{ListedExactlyWithoutCycles, OneListing};
 
-use crate::sequence::Sequence;
+use crate::Sequence;
 use crate::table::Relation;
 use event_set::EventSet;
 
@@ -23,9 +23,9 @@ impl Relation {
     {
         let back = self.transposed();
         let mut left = EventSet::below(n);
-        let mut listed = Sequence::empty();
+        let mut listed = Sequence::empty(0);
         while let Some(event) = back.lowest_free(left) {
-            listed.push(event);
+            listed.push(event).ok()?;
             left.remove(event);
         }
         if left.is_empty() { Some(listed) } else { None }

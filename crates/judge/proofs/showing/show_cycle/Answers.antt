@@ -3,7 +3,6 @@ use Rattle.graph.specs.View.{view}
 use Rattle.cycles.specs.Cycles.{FirstCycle}
 use Rattle.relation.specs.Sequences.{events}
 use Rattle.relation.proofs.Same.{is_same}
-use Rattle.relation.proofs.Sequenced.{events_length}
 use Rattle.verdict.specs.declared.verdict.Verdict.TheVariants.{Cycle as has_cycle}
 use Rattle.judge.specs.Sheets.{put}
 use Rattle.judge.proofs.Sheets.{put_start}
@@ -17,20 +16,17 @@ unreachable-requires g c =
 
 pub write_events-length-requires : goal.write_events-length-requires
 write_events-length-requires g c =
-    let few = c.in-Some.cycle.bounded in
-    omega (arith, events_length c.in-Some.cycle, ap length c.as_slice.ensures.is_the_events_in_order, c.requires.room)
+    omega (arith, c.as_slice.ensures.no_more_than_fit, c.requires.room)
 
 pub overflow_cast-result-2 : goal.overflow_cast-result-2
 overflow_cast-result-2 g c =
-    let few = c.in-Some.cycle.bounded in
-    let small : c.write_events-length.result ≤ 256 =
-    omega (arith, events_length c.in-Some.cycle, ap length c.as_slice.ensures.is_the_events_in_order, c.write_events-length.ensures.ends) in
+    let small : c.write_events-length.result ≤ 256 = omega (arith, c.as_slice.ensures.no_more_than_fit, c.write_events-length.ensures.ends) in
     search rules
 
 pub returns : goal.returns
 returns g c =
     let same = is_same c.table_of-table.result ((g.M.Model.meaning c.args.model.now).pairs (view c.args.graph.now) c.args.order) c.table_of-table.ensures in
-    let told = c.as_slice.ensures.is_the_events_in_order in
+    let told = c.as_slice.ensures.is_the_items_in_order in
     record {
       cycle = events c.in-Some.cycle;
       first = subst (λ (r : ℕ → ℕ → Bool). FirstCycle r (events c.in-Some.cycle)) same c.in-Some.ensures.else_the_shortest_and_of_those_the_first;

@@ -11,7 +11,7 @@ pub loop-order-preserved : goal.loop-order-preserved
 loop-order-preserved g c =
     let m = g.M.Model.meaning c.args.model.now in
     let h = view c.args.full.now in
-    let told = c.as_slice.ensures.is_the_events_in_order in
+    let told = c.as_slice.ensures.is_the_items_in_order in
     let few = (g.met.M.Model.rules c.args.model.now).few.1 in
     let room : c.loop-order.at ≤ length c.args.sheet.now = omega (arith, few, c.loop-order.invariant.1, c.requires.room, c.loop-order-test.true, c.orders-order-end.ensures.as_many_as_it_means) in (
       lists_more m h c.loop-order.order c.loop-order.at _ c.as_slice.result.now c.args.sheet.now c.loop-order.sheet _ c.loop-order.invariant.0

@@ -1,8 +1,10 @@
-use Rattle.std.proofs.Common.{length, refl, subst, inl, inr, arith}
+use Rattle.std.proofs.Common.{ℕ, Bool, Option, Some, None, length, refl, subst, inl, inr, arith}
 use Rattle.std.proofs.lemmas.Bool.{both_ways, cases_eq, cases_lt}
 use Rattle.relation.specs.Table.{holds}
 use Rattle.relation.specs.Sequences.{events}
-use Rattle.cycles.specs.Cycles.{Way}
+use Rattle.std.specs.Option.{IfSome, IsSomeAnd, MatchOption}
+use Rattle.sequence.specs.declared.sequence.Sequence.{Sequence}
+use Rattle.cycles.specs.Cycles.{Acyclic, Cyclic, FirstCycle, Way}
 use Rattle.cycles.proofs.Tests.{is_true}
 use Rattle.relation.proofs.Words.{holds_inside}
 use Rattle.cycles.proofs.Layers.{way_none, ways_more}
@@ -32,12 +34,19 @@ told_from-requires c =
       };
     }
 
+shown : (r : ℕ → ℕ → Bool) (o : Option (Sequence ℕ 256)) → IsSomeAnd o (λ s. FirstCycle r (events s))
+    → MatchOption o (Acyclic r) (λ _. Cyclic r) × IfSome o (λ s. FirstCycle r (events s))
+shown r None h = absurd h
+shown r (Some s) h = ((events s, h.round), h)
+
 pub returns-in-Some : goal.returns-in-Some
-returns-in-Some c = record {
-  none_exactly_when_there_is_no_cycle = (events c.told_from.result, c.told_from.ensures.round);
-  else_the_shortest_and_of_those_the_first = c.told_from.ensures;
-  there_is_one_first_cycle_at_most = one_first_cycle;
-}
+returns-in-Some c =
+    let told = shown (holds c.args.self.now) _ c.told_from.ensures in
+    record {
+      none_exactly_when_there_is_no_cycle = told.0;
+      else_the_shortest_and_of_those_the_first = told.1;
+      there_is_one_first_cycle_at_most = one_first_cycle;
+    }
 
 pub loop-between-preserved : goal.loop-between-preserved
 loop-between-preserved c =

@@ -1,18 +1,20 @@
 use Rattle.std.proofs.Common.{ℕ, ◌<◌, min, List, [], ◌∷◌, ◌++◌, length, sym, ap, subst, arith}
 use Rattle.std.proofs.lemmas.List.{length_push}
+use Rattle.std.proofs.lemmas.Bool.Decides.{nat_tests}
 use Rattle.event_set.specs.Sets.{has}
 use Rattle.relation.specs.Table.{holds}
 use Rattle.relation.specs.Sequences.{events}
 use Rattle.cycles.proofs.Listed.{Begun, begun_none, begun_bound, listing_length, listed_is_acyclic, one_listing}
 use Rattle.cycles.proofs.Queue.{Queue, queue_none, queue_more, lists_on, all_wait, all_listed, listed_exactly_without_cycles}
+use Rattle.relation.proofs.Appended.{appended}
 use Rattle.relation.proofs.table.Relation.list.Goals as goal
 use Rattle.relation.proofs.table.Relation.list.Goals.{In-Some}
 
 pub loop-event-init : goal.loop-event-init
 loop-event-init c =
     let m = min c.args.n 256 in (
-      subst (λ (ys : List ℕ). Begun (holds c.args.self.now) m ys) (sym c.empty-listed.ensures) (begun_none _ m),
-      queue_none c.args.n _ _ c.below-left.ensures.has_just_those_below c.empty-listed.ensures,
+      subst (λ (ys : List ℕ). Begun (holds c.args.self.now) m ys) (sym c.empty-listed.ensures.has_no_item) (begun_none _ m),
+      queue_none c.args.n _ _ c.below-left.ensures.has_just_those_below c.empty-listed.ensures.has_no_item,
     )
 
 -- with the event that is found the listing goes on
@@ -27,22 +29,23 @@ has_room c =
     let more = length_push (events c.loop-event.listed) c.in-Some.event in
     omega arith
 
-pub push-requires : goal.push-requires
-push-requires c = has_room (goal.at.push-requires c).In-Some
+pub returns-in_err-ok : goal.returns-in_err-ok
+returns-in_err-ok c = let room = has_room (goal.at.returns-in_err-ok c).In-Some in absurd (grind (arith, nat_tests))
 
 pub loop-event-preserved : goal.loop-event-preserved
 loop-event-preserved c =
     let m = min c.args.n 256 in
+    let at_end = appended _ _ c.in-Some.event c.push.ensures.at_the_end_where_there_is_room (has_room (goal.at.loop-event-preserved c).In-Some) in
     let queue = queue_more m _ _ c.loop-event.invariant.1 c.in-Some.event _ c.remove.ensures.takes_just_this_one in (
-      subst (λ (zs : List ℕ). Begun (holds c.args.self.now) m zs) (sym c.push.ensures) (goes_on (goal.at.loop-event-preserved c).In-Some),
-      subst (λ (zs : List ℕ). Queue m zs (has c.remove.new.self)) (sym c.push.ensures) queue,
+      subst (λ (zs : List ℕ). Begun (holds c.args.self.now) m zs) (sym at_end) (goes_on (goal.at.loop-event-preserved c).In-Some),
+      subst (λ (zs : List ℕ). Queue m zs (has c.remove.new.self)) (sym at_end) queue,
     )
 
 pub loop-event-smaller : goal.loop-event-smaller
 loop-event-smaller c =
     let room = has_room (goal.at.loop-event-smaller c).In-Some in
     let more = length_push (events c.loop-event.listed) c.in-Some.event in
-    omega (arith, ap length c.push.ensures)
+    omega (arith, ap length (appended _ _ c.in-Some.event c.push.ensures.at_the_end_where_there_is_room room))
 
 pub returns-then-is_empty : goal.returns-then-is_empty
 returns-then-is_empty c =

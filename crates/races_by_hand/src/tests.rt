@@ -1,31 +1,32 @@
-//! Location 0 is x and location 1 is y, so that the first recorded event is 2. Mode 0 is not atomic,
-//! 1 relaxed, 2 acquire, 3 release.
+//! The numbers of an event are its thread, location, value read, value written and mode. Location 0 is x and location 1
+//! is y, so that the first recorded event is 2. Mode 0 is not atomic, 1 relaxed, 2 acquire, 3 release.
 use boards::{C11, Ra};
-use event::{Arguments, Denial, Kind, Size};
+use event::{Denial, Kind, Size};
 use graph::{Closed, Open};
 use races::{Race, find_race};
 use std::test::Fail;
 
-fn access(thread: u32, location: u32, value: u32, mode: u32) -> Arguments {
-    Arguments {
-        thread,
-        location,
-        read: value,
-        written: value,
-        mode,
+/// The graph with these events, and reads with their sources.
+fn closed(size: Size, events: &[(Kind, [u32; 5])], links: &[(u32, u32)]) -> Result<Closed, Fail> {
+    let mut open = Open::new(size);
+    for (kind, numbers) in events {
+        open.record(*kind, (*numbers).into())?;
     }
+    for (read, source) in links {
+        open.link(*read, *source)?;
+    }
+    Ok(open.close())
 }
 
 /// Thread 1 writes x and then the flag y; thread 2 reads y and then x.
 fn message_passing(write_mode: u32, read_mode: u32) -> Result<Closed, Fail> {
-    let mut open = Open::new(Size::new(2, 2)?);
-    open.record(Kind::Write, access(1, 0, 1, 0))?;
-    open.record(Kind::Write, access(1, 1, 1, write_mode))?;
-    open.record(Kind::Read, access(2, 1, 1, read_mode))?;
-    open.record(Kind::Read, access(2, 0, 1, 0))?;
-    open.link(4, 3)?;
-    open.link(5, 2)?;
-    Ok(open.close())
+    let events = [
+        (Kind::Write, [1, 0, 1, 1, 0]),
+        (Kind::Write, [1, 1, 1, 1, write_mode]),
+        (Kind::Read, [2, 1, 1, 1, read_mode]),
+        (Kind::Read, [2, 0, 1, 1, 0]),
+    ];
+    closed(Size::new(2, 2)?, &events, &[(4, 3), (5, 2)])
 }
 
 #[test]
@@ -46,16 +47,16 @@ fn a_relaxed_flag_passes_no_message_under_c11(rt: HostRuntime) -> Result<(), Fai
 /// Of 2 with 5, 2 with 6, 3 with 4 and 5 with 6.
 #[test]
 fn the_first_race_has_the_lowest_lower_event(rt: HostRuntime) -> Result<(), Fail> {
-    let mut open = Open::new(Size::new(3, 2)?);
-    open.record(Kind::Write, access(1, 0, 1, 0))?;
-    open.record(Kind::Write, access(1, 1, 1, 0))?;
-    open.record(Kind::Read, access(2, 1, 0, 0))?;
-    open.record(Kind::Read, access(2, 0, 0, 0))?;
-    open.record(Kind::Write, access(3, 0, 2, 0))?;
-    open.link(4, 1)?;
-    open.link(5, 0)?;
+    let events = [
+        (Kind::Write, [1, 0, 1, 1, 0]),
+        (Kind::Write, [1, 1, 1, 1, 0]),
+        (Kind::Read, [2, 1, 0, 0, 0]),
+        (Kind::Read, [2, 0, 0, 0, 0]),
+        (Kind::Write, [3, 0, 2, 2, 0]),
+    ];
+    let graph = closed(Size::new(3, 2)?, &events, &[(4, 1), (5, 0)])?;
     assert_eq!(rt;
-        find_race(&open.close(), &C11)?,
+        find_race(&graph, &C11)?,
         Some(Race {
             first: 2,
             second: 5,
@@ -67,17 +68,16 @@ fn the_first_race_has_the_lowest_lower_event(rt: HostRuntime) -> Result<(), Fail
 /// Two reads of x do not race, nor do two atomic writes of y; an atomic write and a plain read of y do.
 #[test]
 fn one_of_two_writes_and_one_is_not_atomic(rt: HostRuntime) -> Result<(), Fail> {
-    let mut open = Open::new(Size::new(2, 2)?);
-    open.record(Kind::Read, access(1, 0, 0, 0))?;
-    open.record(Kind::Read, access(2, 0, 0, 0))?;
-    open.record(Kind::Write, access(1, 1, 1, 1))?;
-    open.record(Kind::Write, access(2, 1, 2, 1))?;
-    open.record(Kind::Read, access(2, 1, 0, 0))?;
-    open.link(2, 0)?;
-    open.link(3, 0)?;
-    open.link(6, 1)?;
+    let events = [
+        (Kind::Read, [1, 0, 0, 0, 0]),
+        (Kind::Read, [2, 0, 0, 0, 0]),
+        (Kind::Write, [1, 1, 1, 1, 1]),
+        (Kind::Write, [2, 1, 2, 2, 1]),
+        (Kind::Read, [2, 1, 0, 0, 0]),
+    ];
+    let graph = closed(Size::new(2, 2)?, &events, &[(2, 0), (3, 0), (6, 1)])?;
     assert_eq!(rt;
-        find_race(&open.close(), &C11)?,
+        find_race(&graph, &C11)?,
         Some(Race {
             first: 4,
             second: 6,
@@ -88,11 +88,11 @@ fn one_of_two_writes_and_one_is_not_atomic(rt: HostRuntime) -> Result<(), Fail> 
 
 #[test]
 fn the_lowest_unlinked_read_denies(rt: HostRuntime) -> Result<(), Fail> {
-    let mut open = Open::new(Size::new(1, 2)?);
-    open.record(Kind::Read, access(1, 0, 0, 0))?;
-    open.record(Kind::Read, access(1, 0, 0, 0))?;
-    open.record(Kind::Read, access(1, 0, 0, 0))?;
-    open.link(2, 0)?;
-    assert_eq!(rt; find_race(&open.close(), &Ra), Err(Denial::Unread(3)));
+    let graph = closed(
+        Size::new(1, 2)?,
+        &[(Kind::Read, [1, 0, 0, 0, 0]); 3],
+        &[(2, 0)],
+    )?;
+    assert_eq!(rt; find_race(&graph, &Ra), Err(Denial::Unread(3)));
     Ok(())
 }

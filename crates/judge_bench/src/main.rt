@@ -2,12 +2,13 @@
 //! Standard output has the verdicts, standard error how long they take. The argument is the number of rounds.
 #![tactic(auto)]
 
+ghost use Rattle.std.specs.Prelude.{◌<◌};
+
 use boards::Board;
-use event::{Arguments, Denial, Kind, Size};
+use event::{Denial, Kind, Size};
 use graph::Open;
 use judge::Judge;
-use std::time::Instant;
-use std::{env, io};
+use std::io;
 use verdict::Verdict;
 
 /// What the eight open writes are.
@@ -17,67 +18,53 @@ enum Writes {
     Free,
     /// All in one thread.
     OneThread,
-    /// Two of them, by their bits, are updates of one source, and the others free.
-    TwoUpdates(u32),
+    /// The two of these numbers are updates of one source, and the others free.
+    TwoUpdates(u32, u32),
 }
 
-fn access(thread: u32, location: u32, read: u32, written: u32) -> Arguments {
-    Arguments {
-        thread,
-        location,
-        read,
-        written,
-        mode: 1,
+impl Writes {
+    /// The thread of the open write of a number from 0 to 7.
+    fn thread(self, number: u32) -> u32
+        requires { number < 8 }
+    {
+        match self {
+            Writes::OneThread => 9,
+            Writes::Free | Writes::TwoUpdates(..) => 9 + number,
+        }
+    }
+
+    fn kind(self, number: u32) -> Kind {
+        match self {
+            Writes::TwoUpdates(a, b) if number == a || number == b => Kind::Update,
+            _ => Kind::Write,
+        }
     }
 }
 
 /// Eight placed writes of location 0, 238 reads of location 1, and then the open writes, to location 0 again.
+/// The numbers of an event are its thread, location, value read, value written and mode.
 fn build(writes: Writes) -> Result<Open, Denial> {
     let mut graph = Open::new(Size::new(16, 2)?);
     for i in 0..8u32 {
-        graph.record(Kind::Write, access(1 + i, 0, 0, 5))?;
+        graph.record(Kind::Write, [1 + i, 0, 0, 5, 1].into())?;
         let after = if i == 0 { 0 } else { 1 + i };
         graph.place(2 + i, after)?;
     }
     for i in 0..238u32 {
-        graph.record(Kind::Read, access(1 + i % 4, 1, 0, 0))?;
+        graph.record(Kind::Read, [1 + i % 4, 1, 0, 0, 1].into())?;
     }
     for i in 0..8u32 {
-        add(&mut graph, writes, i)?;
+        let kind = writes.kind(i);
+        let event = graph.record(kind, [writes.thread(i), 0, 5, 6, 1].into())?;
+        if matches!(kind, Kind::Update) {
+            graph.link(event.into(), 5)?;
+        }
     }
     Ok(graph)
 }
 
-/// The open write of a number from 0 to 7.
-fn add(graph: &mut Open, writes: Writes, i: u32) -> Result<(), Denial> {
-    let write = access(9 + i % 8, 0, 5, 6);
-    match writes {
-        Writes::Free => {
-            graph.record(Kind::Write, write)?;
-        }
-        Writes::OneThread => {
-            graph.record(Kind::Write, access(9, 0, 5, 6))?;
-        }
-        Writes::TwoUpdates(bits) => {
-            if (bits >> (i % 8)) & 1 == 1 {
-                let update = graph.record(Kind::Update, write)?;
-                graph.link(update as u32, 5)?;
-            } else {
-                graph.record(Kind::Write, write)?;
-            }
-        }
-    }
-    Ok(())
-}
-
-fn verdict(graph: &Open) -> &'static str {
-    let mut sheet = [0u16; 1280];
-    match graph.judge(&Board::Tso, &mut sheet) {
-        Ok(Verdict::Allowed) => "allowed",
-        Ok(Verdict::Cycle { .. }) => "forbidden with a cycle",
-        Ok(Verdict::NoPlacement) => "forbidden at every placement",
-        Err(_) => "denied",
-    }
+fn judged(graph: &Open) -> Result<Verdict, Denial> {
+    graph.judge(&Board::Tso, &mut [0u16; 1280])
 }
 
 /// Tells the verdict, and the least time that it took.
@@ -85,43 +72,29 @@ fn measure(rt: &HostRuntime, name: &str, writes: Writes, rounds: u32) -> io::Res
     let Ok(graph) = build(writes) else {
         return println!(rt; "{name}: not built");
     };
-    let mut best = u128::MAX;
-    for _ in 0..rounds {
-        let start = Instant::now(rt)?;
-        let _ = verdict(&graph);
-        best = best.min(start.elapsed(rt)?.as_micros());
+    let least = timing::least(rt, rounds, |_| {
+        let _ = judged(&graph);
+    })?;
+    let micros = least.as_micros();
+    eprintln!(rt; "{name}: {micros} us")?;
+    match judged(&graph) {
+        Ok(verdict) => println!(rt; "{name}: {verdict}"),
+        Err(_) => println!(rt; "{name}: denied"),
     }
-    let told = verdict(&graph);
-    eprintln!(rt; "{name}: {best} us")?;
-    println!(rt; "{name}: {told}")
-}
-
-fn rounds(rt: &HostRuntime) -> io::Result<u32> {
-    for word in env::args(rt)?.skip(1) {
-        if let Ok(number) = word.as_str().parse::<u32>() {
-            return Ok(number);
-        }
-    }
-    Ok(1)
 }
 
 fn main(rt: HostRuntime) -> io::Result<()> {
-    let count = rounds(&rt)?;
-    measure(&rt, "eight that fit at once", Writes::Free, count)?;
-    measure(&rt, "eight of one thread", Writes::OneThread, count)?;
-    measure(&rt, "two updates first", Writes::TwoUpdates(3), count)?;
-    measure(
-        &rt,
-        "two updates in the middle",
-        Writes::TwoUpdates(24),
-        count,
-    )?;
-    measure(&rt, "two updates apart", Writes::TwoUpdates(66), count)?;
-    measure(
-        &rt,
-        "two updates at the ends",
-        Writes::TwoUpdates(129),
-        count,
-    )?;
-    measure(&rt, "two updates last", Writes::TwoUpdates(192), count)
+    let rounds = timing::rounds(&rt);
+    for (name, writes) in [
+        ("eight that fit at once", Writes::Free),
+        ("eight of one thread", Writes::OneThread),
+        ("two updates first", Writes::TwoUpdates(0, 1)),
+        ("two updates in the middle", Writes::TwoUpdates(3, 4)),
+        ("two updates apart", Writes::TwoUpdates(1, 6)),
+        ("two updates at the ends", Writes::TwoUpdates(0, 7)),
+        ("two updates last", Writes::TwoUpdates(6, 7)),
+    ] {
+        measure(&rt, name, writes, rounds)?;
+    }
+    Ok(())
 }

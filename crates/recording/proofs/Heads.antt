@@ -1,11 +1,14 @@
 -- What is denied of an H line.
-use Rattle.std.proofs.Common.{◌≡◌, ℕ, ◌*◌, ◌%◌, ◌^◌, ◌<◌, ◌≤◌, cond, eqb, Some, None, ap, ◌∙◌, mod-eq_of_lt, one-mul, arith, pow_mono}
+use Rattle.std.proofs.Common.{Ok, Err, ◌≡◌, ℕ, ◌*◌, ◌%◌, ◌^◌, ◌<◌, ◌≤◌, cond, eqb, Some, None, ap, ◌∙◌, mod-eq_of_lt, one-mul, arith, pow_mono}
 use Rattle.std.proofs.lemmas.Bool.{lt-ltb, le-ltb, le-leb, lt-leb}
 use Rattle.std.proofs.lemmas.Bool.Decides.{nat_tests}
 use Rattle.event.specs.declared.denial.Denial.{Denial}
 use Rattle.event.specs.declared.denial.Denial.TheVariants.{Range}
 use Rattle.event.specs.Sizes.{size_denial}
-use Rattle.recording.specs.Headings.{Heading, heading_denial}
+use Rattle.std.specs.Option.{ok_or}
+use Rattle.boards.specs.declared.board.Board.{Board}
+use Rattle.boards.specs.Boards.{numbered}
+use Rattle.recording.specs.Headings.{Heading, heading_denial, model_number}
 
 -- the first set out of range, as it is shifted into place
 pub set_bound : (t threads : ℕ) → t ≤ 16 → t ≡ threads → (1 * 2 ^ t) % 4294967296 ≡ 2 ^ threads
@@ -38,3 +41,10 @@ module _ (h : Heading) where
 -- a number up to 1 as the flag that it is
 pub flag : (n : ℕ) → n ≤ 1 → cond (eqb n 1) 1 0 ≡ n
 flag n h = grind (arith, nat_tests)
+
+-- the number that a model was chosen by, and one that chooses none
+pub chosen_number : (n : ℕ) (b : Board) → Ok b ≡ ok_or (numbered n) (Range 1) → (n ≤ 4) × (model_number b ≡ n)
+chosen_number n b e = (grind (arith, nat_tests), grind (arith, nat_tests))
+
+pub no_model : (n : ℕ) (d : Denial) → Err d ≡ ok_or (numbered n) (Range 1) → 4 < n
+no_model n d e = grind (arith, nat_tests)

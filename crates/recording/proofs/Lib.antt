@@ -3,6 +3,7 @@ pub mod Frames
 pub mod Heads
 pub mod Letters
 pub mod Lines
+pub mod Mapped
 pub mod Reading
 pub mod Steps
 pub mod Window

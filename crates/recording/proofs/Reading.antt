@@ -1,7 +1,6 @@
 -- A reader's next line, and what it makes of a stage.
-use Rattle.std.proofs.Common.{◌≡◌, ℕ, suc, ◌+◌, ◌-◌, ◌≤◌, Bool, true, false, List, [], ◌∷◌, drop, Some, None, Ok, Err, Result, MatchResult, IsErrAnd, sym, refl, ap, ◌∙◌, subst, add-one, arith}
+use Rattle.std.proofs.Common.{◌≡◌, ℕ, suc, ◌+◌, ◌-◌, ◌≤◌, Bool, true, false, List, [], ◌∷◌, drop, Some, None, Ok, Err, Result, sym, refl, ap, ◌∙◌, subst, add-one, arith}
 use Rattle.std.proofs.lemmas.List.{drop-drop}
-use Rattle.std.proofs.lemmas.Result.{err_from_is_err_and}
 use Rattle.event.specs.declared.denial.Denial.{Denial}
 use Rattle.event.specs.declared.denial.Denial.TheVariants.{Frame}
 use Rattle.execution.specs.Content.{Content, opening}
@@ -18,24 +17,9 @@ use Rattle.recording.specs.Answers.{Fills, Takes, opened, whole}
 use Rattle.recording.specs.OneLine.{Heads, Enters, stage}
 use Rattle.recording.proofs.Steps.{run_stops, run_steps, run_ends}
 
--- what an answer was before its denial got the line's number
-module _ {A : Type 0} {r : Result A Denial} {s : Result A Denied} (Q : Denial → Denied → Type 0) (mapped : MatchResult r (λ x. s ≡ Ok x) (λ d. IsErrAnd s (Q d))) where
-  pub answered : (x : A) → s ≡ Ok x → r ≡ Ok x
-  answered x e = elim r as (λ r. MatchResult r (λ x. s ≡ Ok x) (λ d. IsErrAnd s (Q d)) → r ≡ Ok x) [
-    | Ok y ↦ λ m. let same : s ≡ Ok y = m in cc
-    | Err d ↦ λ m. let p = err_from_is_err_and s m in let q : s ≡ Err p.0 = p.1 in cc
-  ] mapped
-
-  pub denied : (n : ℕ) → ((d : Denial) (y : Denied) → Q d y → y ≡ record { line = n; denial = d }) → (x : Denied) → s ≡ Err x → (r ≡ Err x.denial) × (x.line ≡ n)
-  denied n made x e = elim r as (λ r. MatchResult r (λ x. s ≡ Ok x) (λ d. IsErrAnd s (Q d)) → (r ≡ Err x.denial) × (x.line ≡ n)) [
-    | Ok y ↦ λ m. let same : s ≡ Ok y = m in (cc, cc)
-    | Err d ↦ λ m.
-        let p = err_from_is_err_and s m
-        in let q : s ≡ Err p.0 = p.1
-        in let same : x ≡ p.0 = cc
-        in let is : x ≡ record { line = n; denial = d } = same ∙ made d p.0 p.2
-        in (ap (λ (y : Denied). Err y.denial) (sym is), ap (λ (y : Denied). y.line) is)
-  ] mapped
+-- the denial of a line, which was given the line's number
+pub denied : {A : Type 0} {r : Result A Denial} (n : ℕ) (x : Denied) → (d : Denial) × (r ≡ Err d) × (x ≡ record { line = n; denial = d }) → (r ≡ Err x.denial) × (x.line ≡ n)
+denied n x (d, e, is) = (e ∙ ap (λ (y : Denied). Err y.denial) (sym is), ap (λ (y : Denied). y.line) is)
 
 pub ahead_ends : (a : Reader) (s : Stage) → lines (left a) ≡ [] → ahead a s ≡ record { stage = s; fault = unfinished (suc a.line) s }
 ahead_ends a s e = rw e (run_ends (suc a.line) s)

@@ -4,6 +4,8 @@ use Rattle.event.specs.declared.denial.Denial.{Denial}
 use Rattle.event.specs.declared.denial.Denial.TheVariants.{Range}
 use Rattle.event.specs.Denials.{unless, or_else}
 use Rattle.event.specs.Sizes.{size_denial}
+use Rattle.boards.specs.declared.board.Board.{Board}
+use Rattle.boards.specs.declared.board.Board.TheVariants.{Coh, C11, Ra, Tso, Sc}
 use Rattle.recording.specs.declared.header.Header.{Header}
 
 -- the five numbers of the H line
@@ -28,6 +30,14 @@ heading_denial h =
     unless (nat_le h.model 4) (Range 5)
     None)))
 
+-- the number of a model
+abbrev pub model_number : Board → ℕ
+model_number Coh = 0
+model_number C11 = 1
+model_number Ra = 2
+model_number Tso = 3
+model_number Sc = 4
+
 -- a header as the heading that it was read from
 abbrev pub heading_of : Header → Heading
-heading_of h = record { threads = h.size.threads; locations = h.size.locations; strong = h.strong; barrier = cond h.barrier 1 0; model = h.model }
+heading_of h = record { threads = h.size.threads; locations = h.size.locations; strong = h.strong; barrier = cond h.barrier 1 0; model = model_number h.model }

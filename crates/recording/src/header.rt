@@ -1,7 +1,8 @@
 //! The header of a recording.
 
-ghost use Rattle.std.specs.Prelude.{◌^◌, ◌<◌, ◌≤◌};
+ghost use Rattle.std.specs.Prelude.{◌^◌, ◌<◌};
 
+use boards::Board;
 use event::Size;
 
 pub mod reading;
@@ -13,7 +14,6 @@ pub struct Header {
     /// bit t - 1 for thread t
     pub strong: u16,
     pub barrier: bool,
-    pub model: u8,
+    pub model: Board,
     ghost strong_within: { strong < 2 ^ size.threads },
-    ghost known_model: { model ≤ 4 },
 }

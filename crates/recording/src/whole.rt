@@ -34,6 +34,7 @@ pub fn read(bytes: &[u8]) -> Result<Recording, Fault>
 #[cfg(test)]
 mod tests {
     use super::*;
+    use boards::Board;
     use event::Denial;
     use std::test::Fail;
 
@@ -53,7 +54,7 @@ mod tests {
         );
         let recording = read(file.as_bytes())?;
         assert_eq!(rt; recording.header.strong, 1);
-        assert_eq!(rt; recording.header.model, 4);
+        assert_eq!(rt; recording.header.model, Board::Sc);
         assert!(rt; recording.graph.graph().events().len() == 6);
         assert!(rt; recording.graph.graph().placed().len() == 4);
         Ok(())

@@ -4,9 +4,8 @@ ghost use Rattle.std.specs.Prelude.{◌≡◌, Some, None, MatchResult};
 ghost use Rattle.recording.specs.Headings.{heading, heading_denial, heading_of};
 
 use crate::header::Header;
+use boards::Board;
 use event::{Denial, Size};
-
-const LAST_MODEL: u32 = 4;
 
 impl Header {
     pub(crate) fn of(fields: [u32; 5]) -> Result<Header, Denial>
@@ -20,14 +19,12 @@ impl Header {
         if barrier > 1 {
             return Err(Denial::Range(4));
         }
-        if model > LAST_MODEL {
-            return Err(Denial::Range(5));
-        }
+        let model = Board::try_from(model).map_err(|_| Denial::Range(5))?;
         Ok(Header {
             size,
             strong: strong as u16,
             barrier: barrier == 1,
-            model: model as u8,
+            model,
         })
     }
 }

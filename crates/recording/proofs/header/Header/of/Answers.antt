@@ -1,7 +1,10 @@
-use Rattle.std.proofs.Common.{◌∙◌, arith}
+use Rattle.std.proofs.Common.{◌≡◌, Ok, Err, sym, ◌∙◌, arith, rules}
+use Rattle.event.specs.declared.denial.Denial.{Denial}
+use Rattle.event.specs.declared.denial.Denial.TheVariants.{Range}
 use Rattle.std.proofs.lemmas.Result.{err_from_is_err_and}
 use Rattle.recording.specs.Headings.{heading}
-use Rattle.recording.proofs.Heads.{set_bound, bad_size, bad_strong, bad_barrier, bad_model, good_heading, flag}
+use Rattle.recording.proofs.Heads.{set_bound, bad_size, bad_strong, bad_barrier, bad_model, good_heading, flag, chosen_number, no_model}
+use Rattle.recording.proofs.Mapped.{answered, refused}
 use Rattle.recording.proofs.header.Header.of.Goals as goal
 
 pub returns-in_err-size : goal.returns-in_err-size
@@ -23,12 +26,15 @@ returns-then-barrier-gt1 c =
     in let bound = set_bound c.threads.result h.threads (omega arith) (c.threads.ensures.its_threads ∙ size.1)
     in bad_barrier h size.0 (rw bound at c.if-strong-threads.false) c.if-barrier-gt1.true
 
-pub returns-then-model-gt-LAST_MODEL : goal.returns-then-model-gt-LAST_MODEL
-returns-then-model-gt-LAST_MODEL c =
+pub returns-in_err-model : goal.returns-in_err-model
+returns-in_err-model c =
     let h = heading c.args.fields
     in let size = c.in_ok-size.ensures.that_size_or_the_first_out_of_range
     in let bound = set_bound c.threads.result h.threads (omega arith) (c.threads.ensures.its_threads ∙ size.1)
-    in bad_model h size.0 (rw bound at c.if-strong-threads.false) c.if-barrier-gt1.false c.if-model-gt-LAST_MODEL.true
+    in let p = err_from_is_err_and c.from_residual-in_err-model.result c.from_residual-in_err-model.ensures.1
+    in let q : (d : Denial) × (c.try_from.result ≡ Err d) × (c.in_err-model.field-0.0 ≡ Range 5) = refused _ c.map_err.ensures.cases _ (λ d y q. search rules) _ c.in_err-model.was
+    in let none = no_model h.model q.0 (sym q.1 ∙ c.try_from.ensures.the_model_of_that_number_or_range)
+    in rw (p.1, p.2, q.2) (bad_model h size.0 (rw bound at c.if-strong-threads.false) c.if-barrier-gt1.false none)
 
 pub returns : goal.returns
 returns c =
@@ -36,4 +42,6 @@ returns c =
     in let size = c.in_ok-size.ensures.that_size_or_the_first_out_of_range
     in let bound = set_bound c.threads.result h.threads (omega arith) (c.threads.ensures.its_threads ∙ size.1)
     in let barrier = flag h.barrier c.if-barrier-gt1.false
-    in (good_heading h size.0 (rw bound at c.if-strong-threads.false) c.if-barrier-gt1.false c.if-model-gt-LAST_MODEL.false, rw (size.1, size.2, barrier))
+    in let made : c.try_from.result ≡ Ok c.in_ok-model.model = answered _ c.map_err.ensures.cases _ c.in_ok-model.was
+    in let model = chosen_number h.model c.in_ok-model.model (sym made ∙ c.try_from.ensures.the_model_of_that_number_or_range)
+    in (good_heading h size.0 (rw bound at c.if-strong-threads.false) c.if-barrier-gt1.false model.0, rw (size.1, size.2, barrier, model.1))

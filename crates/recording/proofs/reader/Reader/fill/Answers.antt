@@ -6,7 +6,8 @@ use Rattle.recording.specs.declared.reader.Reader.{Reader}
 use Rattle.recording.specs.Lines.{lines}
 use Rattle.recording.specs.Left.{left}
 use Rattle.recording.specs.OneLine.{stage}
-use Rattle.recording.proofs.Reading.{answered, denied, missing_at, whole_at, unfinished_yet, entered_on, not_entered, filled_to, Taken, taken_none, taken_more, taken_to, taken_all}
+use Rattle.recording.proofs.Mapped.{answered, refused}
+use Rattle.recording.proofs.Reading.{denied, missing_at, whole_at, unfinished_yet, entered_on, not_entered, filled_to, Taken, taken_none, taken_more, taken_to, taken_all}
 use Rattle.recording.proofs.reader.Reader.fill.Goals as goal
 
 pub loop-line-init : goal.loop-line-init
@@ -32,7 +33,7 @@ returns-in_err-ended c =
     in let l = c.in-Some.line.now
     in let next = c.in-Some.ensures.the_first_line_of_what_is_left
     in let counted = c.in-Some.ensures.a_line_is_counted_or_nothing_changes
-    in let answer : (c.enter.result ≡ Err c.in_err-ended.field-0.0.denial) × (c.in_err-ended.field-0.0.line ≡ b.line) = denied _ c.map_err.ensures.cases b.line (λ d y q. search rules) _ c.in_err-ended.was
+    in let answer : (c.enter.result ≡ Err c.in_err-ended.field-0.0.denial) × (c.in_err-ended.field-0.0.line ≡ b.line) = denied _ _ (refused _ c.map_err.ensures.cases _ (λ d y q. search rules) _ c.in_err-ended.was)
     in let p = err_from_is_err_and c.from_residual.result c.from_residual.ensures.1
     in record {
       the_lines_before_the_first_fault_stand = λ h.

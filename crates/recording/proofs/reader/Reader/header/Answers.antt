@@ -4,7 +4,8 @@ use Rattle.recording.specs.declared.reader.Reader.{Reader}
 use Rattle.recording.specs.Lines.{lines}
 use Rattle.recording.specs.Left.{left}
 use Rattle.recording.specs.Meaning.{unopened}
-use Rattle.recording.proofs.Reading.{answered, denied, missing_at, headed, not_headed}
+use Rattle.recording.proofs.Mapped.{answered, refused}
+use Rattle.recording.proofs.Reading.{denied, missing_at, headed, not_headed}
 use Rattle.recording.proofs.reader.Reader.header.Goals as goal
 
 pub returns-in_default : goal.returns-in_default
@@ -22,7 +23,7 @@ returns-in_err-header c =
     in let counted = c.in-Some.ensures.a_line_is_counted_or_nothing_changes
     in let p = err_from_is_err_and c.from_residual.result c.from_residual.ensures.1
     in record {
-      opens_what_is_left_or_tells_its_fault = rw (p.1, p.2) (not_headed c.args.self.now c.next_line.new.self c.in-Some.line.now next counted c.header_line.result _ c.header_line.ensures (denied _ c.map_err.ensures.cases c.next_line.new.self.line (λ d y q. search rules) _ c.in_err-header.was));
+      opens_what_is_left_or_tells_its_fault = rw (p.1, p.2) (not_headed c.args.self.now c.next_line.new.self c.in-Some.line.now next counted c.header_line.result _ c.header_line.ensures (denied _ _ (refused _ c.map_err.ensures.cases _ (λ d y q. search rules) _ c.in_err-header.was)));
       takes_one_line = ap (drop 1) (sym next);
     }
 

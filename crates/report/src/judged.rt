@@ -1,14 +1,11 @@
 //! Judging a recording by the model and the layers that its H line names.
 
-ghost use Rattle.boards.specs.Boards.{meaning_of, numbered};
-ghost use Rattle.boards.specs.declared.board.Board.{Board as ABoard};
+ghost use Rattle.boards.specs.Boards.{meaning_of};
 ghost use Rattle.graph.specs.View.{of_closed};
 ghost use Rattle.report.specs.Piles.{piled};
-ghost use Rattle.std.specs.Prelude.{◌≡◌, Some};
 ghost use Rattle.verdict.specs.Law.{Lawful};
 ghost use Rattle.verdict.specs.States.{as_closed};
 
-use boards::Board;
 use event::Denial;
 use judge::Judge;
 use model::{Barrier, Strong};
@@ -17,9 +14,9 @@ use verdict::Verdict;
 
 /// Judges a recording: the strong layer over the barrier layer, where that is asked for, over the model.
 pub fn judge_recording(recording: &Recording, sheet: &mut [u16]) -> Result<Verdict, Denial>
-    ensures judged_by_the_pile_of_its_header { (b : ABoard) → numbered recording.now.header.model ≡ Some b → Lawful (piled recording.now.header.strong recording.now.header.barrier (meaning_of b)) (as_closed (of_closed recording.now.graph)) sheet.old result sheet.new }
+    ensures judged_by_the_pile_of_its_header { Lawful (piled recording.now.header.strong recording.now.header.barrier (meaning_of recording.now.header.model)) (as_closed (of_closed recording.now.graph)) sheet.old result sheet.new }
 {
-    let board = Board::try_from(u32::from(recording.header.model))?;
+    let board = recording.header.model;
     let threads = recording.header.strong;
     if recording.header.barrier {
         recording

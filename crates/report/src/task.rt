@@ -1,8 +1,7 @@
 //! The program's whole task, from the bytes of a recording to the page.
 
-ghost use Rattle.std.specs.Prelude.{◌≡◌, ℕ, ◌<◌, ◌≤◌, List, length, take, IfOk, Some, Err};
-ghost use Rattle.boards.specs.Boards.{meaning_of, numbered};
-ghost use Rattle.boards.specs.declared.board.Board.{Board as ABoard};
+ghost use Rattle.std.specs.Prelude.{◌≡◌, ℕ, ◌<◌, ◌≤◌, List, length, take, IfOk, Err};
+ghost use Rattle.boards.specs.Boards.{meaning_of};
 ghost use Rattle.graph.specs.View.{of_closed};
 ghost use Rattle.event.specs.declared.denial.Denial.TheVariants.{Page};
 ghost use Rattle.recording.specs.Headings.{heading_of};
@@ -13,7 +12,6 @@ ghost use Rattle.report.specs.Printing.{LawfullyPrinted};
 
 use crate::denied::denial_line;
 use crate::printing::print;
-use boards::Board;
 use event::Denial;
 use model::{Barrier, Strong};
 use recording::Recording;
@@ -46,20 +44,17 @@ fn report_recording(recording: Recording, page: &mut [u8]) -> Result<usize, Deni
 
 /// Prints by the strong layer over the barrier layer, where that is asked for, over the model.
 fn print_recording(recording: Recording, page: &mut [u8]) -> Result<usize, Denial>
-    ensures { (b : ABoard) × (numbered recording.header.model ≡ Some b) × LawfullyPrinted (piled recording.header.strong recording.header.barrier (meaning_of b)) (of_closed recording.graph) page.old result page.new }
+    ensures { LawfullyPrinted (piled recording.header.strong recording.header.barrier (meaning_of recording.header.model)) (of_closed recording.graph) page.old result page.new }
 {
     let Recording { header, graph } = recording;
-    let Ok(board) = Board::try_from(u32::from(header.model)) else {
-        unreachable()
-    };
     if header.barrier {
         print(
             graph,
-            &Strong::new(Barrier::new(board), header.strong),
+            &Strong::new(Barrier::new(header.model), header.strong),
             page,
         )
     } else {
-        print(graph, &Strong::new(board, header.strong), page)
+        print(graph, &Strong::new(header.model, header.strong), page)
     }
 }
 

@@ -1,7 +1,9 @@
-use Rattle.std.proofs.Common.{◌≡◌, ℕ, ◌<◌, ◌≤◌, Bool, true, false, cond, eqb, List, length, Ok, Err, sym, refl, ap, ◌∙◌, subst}
+use Rattle.std.proofs.Common.{◌≡◌, ℕ, ◌<◌, ◌≤◌, Bool, true, false, cond, eqb, List, length, Some, Ok, Err, sym, refl, ap, ◌∙◌, subst}
 use Rattle.graph.specs.View.{of_closed}
-use Rattle.recording.specs.Headings.{heading_of}
-use Rattle.boards.specs.Boards.{meaning_of}
+use Rattle.recording.specs.Headings.{heading_of, model_number}
+use Rattle.boards.specs.declared.board.Board.{Board}
+use Rattle.boards.specs.declared.board.Board.TheVariants.{Coh, C11, Ra, Tso, Sc}
+use Rattle.boards.specs.Boards.{numbered, meaning_of}
 use Rattle.verdict.specs.Answers.{laid}
 use Rattle.report.specs.Piles.{piled}
 use Rattle.report.specs.Printing.{LawfullyPrinted}
@@ -14,18 +16,26 @@ asked : (b : Bool) → b ≡ eqb (cond b 1 0) 1
 asked true = refl
 asked false = refl
 
+-- a model is the one of its own number
+numbered_again : (b : Board) → numbered (model_number b) ≡ Some b
+numbered_again Coh = refl
+numbered_again C11 = refl
+numbered_again Ra = refl
+numbered_again Tso = refl
+numbered_again Sc = refl
+
 pub returns-in-Ok : goal.returns-in-Ok
 returns-in-Ok c =
     let header = c.args.recording.header in
     let g = of_closed c.args.recording.graph in
     let before = c.args.page.now in
     let after = c.print_recording.new.page in
-    let found = c.in-Ok.ensures in
-    let printed : LawfullyPrinted (pile_of (heading_of header) found.0) g before (Ok c.in-Ok.length) after =
-    subst (λ (b : Bool). LawfullyPrinted (piled header.strong b (meaning_of found.0)) g before (Ok c.in-Ok.length) after) (asked header.barrier) found.2 in
+    let chosen = numbered_again header.model in
+    let printed : LawfullyPrinted (pile_of (heading_of header) header.model) g before (Ok c.in-Ok.length) after =
+    subst (λ (b : Bool). LawfullyPrinted (piled header.strong b (meaning_of header.model)) g before (Ok c.in-Ok.length) after) (asked header.barrier) c.in-Ok.ensures in
     record {
-      short = printed_never_short (heading_of header) g found.0 found.1 before c.in-Ok.length after printed;
-      long = printed_long (heading_of header) g found.0 found.1 before c.in-Ok.length after printed;
+      short = printed_never_short (heading_of header) g header.model chosen before c.in-Ok.length after printed;
+      long = printed_long (heading_of header) g header.model chosen before c.in-Ok.length after printed;
     }
 
 pub returns-in-Err : goal.returns-in-Err
@@ -35,10 +45,10 @@ returns-in-Err c =
     let before = c.args.page.now in
     let after = c.print_recording.new.page in
     let denial = c.in-Err.denial in
-    let found = c.in-Err.ensures in
-    let printed : LawfullyPrinted (pile_of (heading_of header) found.0) g before (Err denial) after =
-    subst (λ (b : Bool). LawfullyPrinted (piled header.strong b (meaning_of found.0)) g before (Err denial) after) (asked header.barrier) found.2 in
-    let kept : after ≡ before = page_kept (heading_of header) g found.0 found.1 before denial after printed in
+    let chosen = numbered_again header.model in
+    let printed : LawfullyPrinted (pile_of (heading_of header) header.model) g before (Err denial) after =
+    subst (λ (b : Bool). LawfullyPrinted (piled header.strong b (meaning_of header.model)) g before (Err denial) after) (asked header.barrier) c.in-Err.ensures in
+    let kept : after ≡ before = page_kept (heading_of header) g header.model chosen before denial after printed in
     record {
       short = λ s.
           let told = c.tell_denial.ensures.short (subst (λ (p : List ℕ). length p < 17934) (sym kept) s) in
@@ -48,7 +58,7 @@ returns-in-Err c =
           record {
             text = told.text;
             serves = subst (λ (text : List ℕ). ToldOf (heading_of header) g text) (sym (told.serves ∙ ap (denial_text denial 0) c.position.ensures.position_of_its_case))
-                (denial_told (heading_of header) g found.0 found.1 before denial after printed l);
+                (denial_told (heading_of header) g header.model chosen before denial after printed l);
             returned = told.returned;
             page = told.page ∙ ap (laid told.text) kept;
           };

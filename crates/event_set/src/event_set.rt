@@ -112,6 +112,7 @@ impl Iterator for EventSet {
     ghost remaining = { λ s. at_most (weight s) };
 
     fn next(&mut self) -> Option<u8> {
+        // Not `position` and `?`: by them closing and listing take up to a third longer.
         for (i, &word) in self.words.iter().enumerate() {
             if word != 0 {
                 self.words[i] = word & (word - 1);

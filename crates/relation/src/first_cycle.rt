@@ -38,6 +38,7 @@ impl Relation {
     fn lowest_return(&self) -> Option<u8>
         ensures { MatchOption result ((x : ℕ) → holds self.now x x ≡ false) (λ a. T (holds self.now a a) × ((x : ℕ) → x < a → holds self.now x x ≡ false)) }
     {
+        // Not `find`: the library has no lemma on what it answers over `0..=255`.
         for a in 0..256usize {
             if self.contains(a as u8, a as u8) {
                 return Some(a as u8);

@@ -1,5 +1,5 @@
 //! Listing the events in an order that the relation keeps.
-ghost use Rattle.std.specs.Prelude.{◌≡◌, ℕ, ◌<◌, min, T, length, IfSome, MatchOption};
+ghost use Rattle.std.specs.Prelude.{◌≡◌, ℕ, ◌<◌, min, T, length, IfSome, MatchBool, MatchOption};
 ghost use Rattle.event_set.specs.Sets.{has, LeadsOn};
 ghost use Rattle.relation.specs.Table.{holds};
 ghost use Rattle.cycles.specs.Cycles.{Cyclic, Acyclic};
@@ -35,11 +35,13 @@ impl Relation {
     fn lowest_free(&self, left: EventSet) -> Option<u8>
         ensures { MatchOption result ((x : ℕ) → T (has left x) → LeadsOn (holds self.now) left x) (λ a. T (has left a) × (LeadsOn (holds self.now) left a → ⊥) × ((x : ℕ) → x < a → T (has left x) → LeadsOn (holds self.now) left x)) }
     {
-        for event in left {
-            if self.row(event).is_disjoint(&left) {
-                return Some(event);
-            }
-        }
-        None
+        left.into_iter().find(|event| self.is_free(*event, &left))
+    }
+
+    /// Whether `event` is paired with none of `left`.
+    fn is_free(&self, event: u8, left: &EventSet) -> bool
+        ensures { MatchBool result (LeadsOn (holds self.now) left.now event → ⊥) (LeadsOn (holds self.now) left.now event) }
+    {
+        self.row(event).is_disjoint(left)
     }
 }

@@ -72,6 +72,7 @@ impl Relation {
         ensures holds_the_pairs_of_either { Is self.new (λ x y. holds self.old x y || holds other.now x y) }
         ensures a_larger_relation_keeps_every_cycle { LargerKeepsCycles }
     {
+        // Not `zip`: after it no contract says what was written through `iter_mut`.
         for (i, word) in self.words.iter_mut().enumerate() {
             *word |= other.words[i];
         }
@@ -82,6 +83,7 @@ impl Relation {
         ensures holds_each_pair_turned { Is result (λ x y. holds self.now y x) }
     {
         let mut back = Relation::empty();
+        // Not `0..=255`, here and in the other walks of all rows: it ends in two ways, and each proof would be told twice.
         for a in 0..256usize {
             for b in self.row(a as u8) {
                 back.insert(b, a as u8);

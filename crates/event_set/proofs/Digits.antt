@@ -1,19 +1,17 @@
 -- The digits of a number: of zero, of 2 ^ j, of an `|` and an `&`; and its lowest set digit.
-use Rattle.std.proofs.Common.{◌≡◌, ℕ, zero, suc, ◌-◌, ◌/◌, ◌%◌, ◌^◌, ◌<◌, true, false, not, ◌&&◌, ◌||◌, eqb, ◌⊎◌, sym, refl, ap, ◌∙◌, subst, ap₂, inl, inr, zero-lt-suc, pow-suc, div-one, mul-div_cancel, one-add, arith, shr-shr}
-use native.Mathlib.Nat.{zero-div, mul-mod_left}
+use Rattle.std.proofs.Common.{◌≡◌, ℕ, zero, suc, min, max, ◌-◌, ◌/◌, ◌%◌, ◌^◌, ◌<◌, true, false, not, ◌&&◌, ◌||◌, eqb, ◌⊎◌, sym, refl, ap, ◌∙◌, subst, ap₂, inl, inr, pow-suc, div-one, one-add, arith, shr-shr}
+use native.Mathlib.Nat.{zero-div}
+use Rattle.std.proofs.lemmas.Nat.Bits.{bit_at_or, bit_at_and, bit_at-lt, bit_at-pow_same, bit_at-pow_other}
+use Rattle.std.proofs.lemmas.Bool.{cases_eq, eq-eqb, ne_eqb}
+use Rattle.std.proofs.lemmas.Bool.Decides.{nat_tests}
+use Rattle.std.specs.Int.{bit_at}
 use lib.Dec.{eqb-zero-suc, eqb-suc-zero, eqb-suc-suc}
-use lib.Bits.{bit_and, bit_or, or_shr, or_mod, and_shr, and_mod, and_self}
+use lib.Bits.{bit_and, bit_or, and_shr, and_mod, and_self}
 use lib.Count.{count_trailing_zeros, under}
 use Rattle.event_set.specs.Sets.{bit}
 
-or_digit : (p q : ℕ) → p < 2 → q < 2 → eqb (bit_or p q) 1 ≡ (eqb p 1 || eqb q 1)
-or_digit zero zero h k = refl
-or_digit zero (suc zero) h k = refl
-or_digit (suc zero) zero h k = refl
-or_digit (suc zero) (suc zero) h k = refl
-or_digit zero (suc (suc q)) h k = absurd (omega arith)
-or_digit (suc zero) (suc (suc q)) h k = absurd (omega arith)
-or_digit (suc (suc p)) q h k = absurd (omega arith)
+or_digit : (p q : ℕ) → p < 2 → q < 2 → eqb (max p q) 1 ≡ (eqb p 1 || eqb q 1)
+or_digit p q h k = grind (arith, nat_tests)
 
 pub bit_zero : (k : ℕ) → bit 0 k ≡ false
 unfolding bit
@@ -21,9 +19,7 @@ bit_zero k = rw (zero-div (2 ^ k))
 
 pub bit_of_or : (u v k : ℕ) → bit (bit_or u v) k ≡ (bit u k || bit v k)
 unfolding bit
-bit_of_or u v k =
-    ap (λ n. eqb (n % 2) 1) (or_shr u v k) ∙ ap (λ n. eqb n 1) (or_mod (u / 2 ^ k) (v / 2 ^ k) 1)
-    ∙ or_digit (u / 2 ^ k % 2) (v / 2 ^ k % 2) (omega arith) (omega arith)
+bit_of_or u v k = ap (λ n. eqb n 1) (bit_at_or u v k) ∙ or_digit (bit_at u k) (bit_at v k) (bit_at-lt u k) (bit_at-lt v k)
 
 -- the lowest digit, and the others
 pub bit_low : (w : ℕ) → bit w 0 ≡ eqb (w % 2) 1
@@ -35,12 +31,11 @@ unfolding bit
 bit_suc w k = ap (λ n. eqb (n % 2) 1) (ap (λ n. w / 2 ^ n) (sym (one-add k)) ∙ sym (shr-shr w 1 k))
 
 pub bit_pow : (j k : ℕ) → bit (2 ^ j) k ≡ eqb k j
-bit_pow zero zero = bit_low 1
-bit_pow zero (suc k) = bit_suc 1 k ∙ bit_zero k ∙ sym (eqb-suc-zero k)
-bit_pow (suc j) zero = bit_low (2 ^ suc j) ∙ ap (λ n. eqb n 1) (ap (λ n. n % 2) (pow-suc 2 j) ∙ mul-mod_left (2 ^ j) 2) ∙ sym (eqb-zero-suc j)
-bit_pow (suc j) (suc k) =
-    bit_suc (2 ^ suc j) k ∙ ap (λ n. bit n k) (ap (λ n. n / 2) (pow-suc 2 j) ∙ mul-div_cancel (2 ^ j) (zero-lt-suc 1))
-    ∙ bit_pow j k ∙ sym (eqb-suc-suc k j)
+unfolding bit
+bit_pow j k = elim (cases_eq k j) [
+  | inl e ↦ ap (λ i. eqb (bit_at (2 ^ j) i) 1) e ∙ ap (λ n. eqb n 1) (bit_at-pow_same j) ∙ sym (eq-eqb k j e)
+  | inr n ↦ ap (λ m. eqb m 1) (bit_at-pow_other j k n) ∙ sym (ne_eqb k j n)
+]
 
 digit_of : (w : ℕ) → (w % 2 ≡ 0) ⊎ (w % 2 ≡ 1)
 digit_of w = go (w % 2) (omega arith)
@@ -102,18 +97,12 @@ lowest (suc k) w p h = go (digit_of w) (λ q. lowest k (w / 2) q (let b = pow-su
         let r = rest (omega arith) in
         subst (λ d. V (under d (count_trailing_zeros k (w / 2)))) (sym e) (omega arith, taken_even w (count_trailing_zeros k (w / 2)) e p r.1)
 
-and_digit : (p q : ℕ) → p < 2 → q < 2 → eqb (bit_and p q) 1 ≡ (eqb p 1 && eqb q 1)
-and_digit zero q h k = refl
-and_digit (suc zero) zero h k = refl
-and_digit (suc zero) (suc zero) h k = refl
-and_digit (suc zero) (suc (suc q)) h k = absurd (omega arith)
-and_digit (suc (suc p)) q h k = absurd (omega arith)
+and_digit : (p q : ℕ) → p < 2 → q < 2 → eqb (min p q) 1 ≡ (eqb p 1 && eqb q 1)
+and_digit p q h k = grind (arith, nat_tests)
 
 pub bit_of_and : (u v k : ℕ) → bit (bit_and u v) k ≡ (bit u k && bit v k)
 unfolding bit
-bit_of_and u v k =
-    ap (λ n. eqb (n % 2) 1) (and_shr u v k) ∙ ap (λ n. eqb n 1) (and_mod (u / 2 ^ k) (v / 2 ^ k) 1)
-    ∙ and_digit (u / 2 ^ k % 2) (v / 2 ^ k % 2) (omega arith) (omega arith)
+bit_of_and u v k = ap (λ n. eqb n 1) (bit_at_and u v k) ∙ and_digit (bit_at u k) (bit_at v k) (bit_at-lt u k) (bit_at-lt v k)
 
 not_digit : (p : ℕ) → p < 2 → eqb (1 - p) 1 ≡ not (eqb p 1)
 not_digit zero h = refl

@@ -6,14 +6,10 @@ use std::test::Fail;
 
 fn shows(rt: &impl Abort, table: &Relation, expected: &[u8]) -> Result<(), Fail> {
     assert!(rt; !table.is_acyclic());
-    match table.first_cycle() {
-        Some(cycle) => {
-            assert_eq!(rt; cycle.len(), expected.len());
-            assert!(rt; cycle.as_slice() == expected);
-            Ok(())
-        }
-        None => Err(Fail::new("no cycle is found")),
-    }
+    let cycle = table.first_cycle().ok_or("no cycle is found")?;
+    assert_eq!(rt; cycle.len(), expected.len());
+    assert!(rt; cycle.as_slice() == expected);
+    Ok(())
 }
 
 fn shows_none(rt: &impl Abort, table: &Relation) {

@@ -13,8 +13,8 @@ use relation::Relation;
 /// The relation with these pairs.
 pub fn related(pairs: &[(u8, u8)]) -> Relation {
     let mut table = Relation::empty();
-    for (a, b) in pairs {
-        table.insert(*a, *b);
+    for &(a, b) in pairs {
+        table.insert(a, b);
     }
     table
 }
@@ -22,9 +22,9 @@ pub fn related(pairs: &[(u8, u8)]) -> Relation {
 /// The relation with every pair.
 pub fn full() -> Relation {
     let mut table = Relation::empty();
-    for a in 0..256usize {
-        for b in 0..256usize {
-            table.insert(a as u8, b as u8);
+    for a in 0..=u8::MAX {
+        for b in 0..=u8::MAX {
+            table.insert(a, b);
         }
     }
     table

@@ -5,13 +5,9 @@ use std::process::Abort;
 use std::test::Fail;
 
 fn lists(rt: &impl Abort, table: &Relation, n: usize, expected: &[u8]) -> Result<(), Fail> {
-    match table.list(n) {
-        Some(listed) => {
-            assert!(rt; listed.as_slice() == expected);
-            Ok(())
-        },
-        None => Err(Fail::new("no list is found")),
-    }
+    let listed = table.list(n).ok_or("no list is found")?;
+    assert!(rt; listed.as_slice() == expected);
+    Ok(())
 }
 
 #[test]
@@ -44,9 +40,7 @@ fn none_with_all_pairs(rt: HostRuntime) -> Result<(), Fail> {
 #[test]
 fn across_words(rt: HostRuntime) -> Result<(), Fail> {
     let table = related(&[(255, 128), (128, 127), (127, 64), (64, 63)]);
-    let Some(listed) = table.list(1000) else {
-        return Err(Fail::new("no list is found"));
-    };
+    let listed = table.list(1000).ok_or("no list is found")?;
     let events = listed.as_slice();
     assert!(rt; events.len() == 256);
     assert!(rt; events[62] == 62 && events[63] == 65 && events[124] == 126);

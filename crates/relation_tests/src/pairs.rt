@@ -5,18 +5,17 @@ use std::process::Abort;
 
 fn of(events: &[u8]) -> EventSet {
     let mut set = EventSet::empty();
-    for event in events {
-        set.insert(*event);
+    for &event in events {
+        set.insert(event);
     }
     set
 }
 
-fn walks(rt: &impl Abort, set: EventSet, expected: &[u8]) {
-    let mut rest = set;
-    for event in expected {
-        assert_eq!(rt; rest.next(), Some(*event));
+fn walks(rt: &impl Abort, mut set: EventSet, expected: &[u8]) {
+    for &event in expected {
+        assert_eq!(rt; set.next(), Some(event));
     }
-    assert_eq!(rt; rest.next(), None);
+    assert_eq!(rt; set.next(), None);
 }
 
 #[test]

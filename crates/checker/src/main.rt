@@ -4,12 +4,8 @@
 use anyhow::anyhow;
 use event::Denial;
 use recording::Recording;
-use report::PAGE;
+use report::{INPUT, PAGE};
 use std::io::{Read, Write};
-use verdict::Verdict;
-
-/// The bytes that can matter: 1,025 lines.
-const INPUT: u64 = 34_850;
 
 fn main(rt: HostRuntime) -> anyhow::Result<()> {
     run(&rt)
@@ -28,11 +24,7 @@ fn run(rt: &HostRuntime) -> anyhow::Result<()> {
 fn judge(rt: &HostRuntime, recording: &Recording) -> anyhow::Result<()> {
     let mut sheet = [0u16; 1280];
     match report::judge_recording(recording, &mut sheet) {
-        Ok(Verdict::Allowed) => println!(rt; "allowed")?,
-        Ok(Verdict::Cycle { order, length }) => println!(rt;
-            "forbidden: order {order} has a cycle of {length} events"
-        )?,
-        Ok(Verdict::NoPlacement) => println!(rt; "forbidden at every placement")?,
+        Ok(verdict) => println!(rt; "{verdict}")?,
         Err(denial) => deny(rt, denial, 0, denial.position())?,
     }
     Ok(())
@@ -40,16 +32,14 @@ fn judge(rt: &HostRuntime, recording: &Recording) -> anyhow::Result<()> {
 
 /// The line that tells why a recording is denied; line 0 where no line is at fault.
 fn deny(rt: &HostRuntime, denial: Denial, line: usize, place: u8) -> anyhow::Result<()> {
-    let mut page = vec![in rt.alloc(); b' '; PAGE]?;
-    let answer = report::denial_line(
-        denial.number() as usize,
+    let mut page = [b' '; PAGE];
+    let length = report::denial_line(
+        usize::from(denial.number()),
         line,
-        place as usize,
-        page.as_mut_slice(),
-    );
-    let Ok(length) = answer else {
-        return Err(anyhow!("the denial line was denied"));
-    };
-    rt.stdout().write_all(&page.as_slice()[0..length])?;
+        usize::from(place),
+        &mut page,
+    )
+    .map_err(|_| anyhow!("the denial line was denied"))?;
+    rt.stdout().write_all(&page[..length])?;
     Ok(())
 }

@@ -6,21 +6,30 @@ use anyhow::anyhow;
 use boards::Board;
 use graph::Closed;
 use judge::Judge;
-use model::{Barrier, Model, Strong};
+use piles::Pile;
 use std::{env, fs, io};
 use verdict::Verdict;
 
-/// The models, each column of the table with one layer or none over one of them.
-const MODELS: [Board; 5] = [Board::Coh, Board::C11, Board::Ra, Board::Tso, Board::Sc];
-
-/// The names of the columns, in the order of the cells of a row.
-const COLUMNS: [&str; 14] = [
-    "COH", "C11", "RA", "TSO", "SC", "COH+b", "C11+b", "RA+b", "TSO+b", "SC+b", "COH+s", "C11+s",
-    "RA+s", "TSO+s",
-];
-
 /// The set of all threads.
 const ALL: u16 = u16::MAX;
+
+/// The columns of the table: a name, a model, whether the barrier layer is over it, and the threads of the strong layer.
+const COLUMNS: [(&str, Board, bool, u16); 14] = [
+    ("COH", Board::Coh, false, 0),
+    ("C11", Board::C11, false, 0),
+    ("RA", Board::Ra, false, 0),
+    ("TSO", Board::Tso, false, 0),
+    ("SC", Board::Sc, false, 0),
+    ("COH+b", Board::Coh, true, 0),
+    ("C11+b", Board::C11, true, 0),
+    ("RA+b", Board::Ra, true, 0),
+    ("TSO+b", Board::Tso, true, 0),
+    ("SC+b", Board::Sc, true, 0),
+    ("COH+s", Board::Coh, false, ALL),
+    ("C11+s", Board::C11, false, ALL),
+    ("RA+s", Board::Ra, false, ALL),
+    ("TSO+s", Board::Tso, false, ALL),
+];
 
 fn main(rt: HostRuntime) -> anyhow::Result<()> {
     run(&rt)
@@ -28,8 +37,8 @@ fn main(rt: HostRuntime) -> anyhow::Result<()> {
 
 fn run(rt: &HostRuntime) -> anyhow::Result<()> {
     print!(rt; "{:28}", "")?;
-    for column in COLUMNS {
-        print!(rt; "{column:>6}")?;
+    for (name, _, _, _) in COLUMNS {
+        print!(rt; "{name:>6}")?;
     }
     println!(rt; "")?;
     for file in env::args(rt)?.skip(1) {
@@ -46,48 +55,24 @@ fn row(rt: &HostRuntime, file: &str) -> anyhow::Result<()> {
     };
     let name = file.strip_suffix(".txt").unwrap_or(file);
     print!(rt; "{name:<28}")?;
-    bare(rt, &recording.graph)?;
-    with_barrier(rt, &recording.graph)?;
-    with_strong_threads(rt, &recording.graph)?;
+    for (_, board, barrier, strong) in COLUMNS {
+        let pile = Pile {
+            board,
+            barrier,
+            strong,
+        };
+        cell(rt, &recording.graph, &pile)?;
+    }
     println!(rt; "")?;
     Ok(())
 }
 
-/// The five models as they are.
-fn bare(rt: &HostRuntime, graph: &Closed) -> io::Result<()> {
-    for model in MODELS {
-        cell(rt, graph, &model)?;
-    }
-    Ok(())
-}
-
-/// The five models under the barrier layer.
-fn with_barrier(rt: &HostRuntime, graph: &Closed) -> io::Result<()> {
-    for model in MODELS {
-        cell(rt, graph, &Barrier::new(model))?;
-    }
-    Ok(())
-}
-
-/// All models but SC under the strong layer for all threads.
-fn with_strong_threads(rt: &HostRuntime, graph: &Closed) -> io::Result<()> {
-    for model in MODELS.iter().take(4) {
-        cell(rt, graph, &Strong::new(*model, ALL))?;
-    }
-    Ok(())
-}
-
-/// One letter for the verdict by a model, in its column.
-fn cell<M: Model>(rt: &HostRuntime, graph: &Closed, model: &M) -> io::Result<()> {
+/// One letter for the verdict by a pile, in its column.
+fn cell(rt: &HostRuntime, graph: &Closed, pile: &Pile) -> io::Result<()> {
     let mut sheet = [0u16; 1280];
-    let letter = match graph.judge(model, &mut sheet) {
+    let letter = match graph.judge(pile, &mut sheet) {
         Ok(Verdict::Allowed) => "A",
-        Ok(
-            Verdict::Cycle {
-                order: _,
-                length: _,
-            },
-        ) => "X",
+        Ok(Verdict::Cycle { .. }) => "X",
         Ok(Verdict::NoPlacement) => "N",
         Err(_) => "D",
     };

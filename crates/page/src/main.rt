@@ -1,11 +1,9 @@
 //! Reads a recording from standard input and writes its report, or why it is denied, to standard output.
 #![tactic(auto)]
 
-use report::PAGE;
+use anyhow::anyhow;
+use report::{INPUT, PAGE};
 use std::io::{Read, Write};
-
-/// The bytes that can matter: 1,025 lines.
-const INPUT: u64 = 34_850;
 
 fn main(rt: HostRuntime) -> anyhow::Result<()> {
     run(&rt)
@@ -14,10 +12,10 @@ fn main(rt: HostRuntime) -> anyhow::Result<()> {
 fn run(rt: &HostRuntime) -> anyhow::Result<()> {
     let mut bytes = Vec::new(rt.alloc());
     rt.stdin().take(INPUT).read_to_end(&mut bytes)?;
-    let mut page = vec![in rt.alloc(); b' '; PAGE]?;
-    let Ok(length) = report::check_recording(bytes.as_slice(), page.as_mut_slice()) else {
-        unreachable()
-    };
-    rt.stdout().write_all(&page.as_slice()[0..length])?;
+    let mut page = [b' '; PAGE];
+    let length = report::check_recording(bytes.as_slice(), &mut page).map_err(|_| anyhow!(
+        "the page is too short"
+    ))?;
+    rt.stdout().write_all(&page[..length])?;
     Ok(())
 }

@@ -1,11 +1,10 @@
 //! Reads many short recordings, each behind a title line that begins with '#', and tells what comes of each.
 #![tactic(auto)]
 
-ghost use Rattle.std.specs.Prelude.{◌<◌, ◌≤◌, length};
-
 use recording::Recording;
 use report::Tally;
 use std::io::{Read, Write};
+use titled::{Recordings, Titled};
 use verdict::Verdict;
 
 /// How many numbers of an allowed graph's sheet are shown.
@@ -18,43 +17,11 @@ fn main(rt: HostRuntime) -> anyhow::Result<()> {
 fn run(rt: &HostRuntime) -> anyhow::Result<()> {
     let mut bytes = Vec::new(rt.alloc());
     rt.stdin().read_to_end(&mut bytes)?;
-    let all = bytes.as_slice();
-    let mut at = 0;
-    while at < all.len() {
-        let body = line_end(all, at);
-        let next = title_from(all, body);
-        rt.stdout().write_all(&all[at..body])?;
-        tell(rt, &all[body..next])?;
-        at = next;
+    for Titled { title, recording } in Recordings::of(bytes.as_slice()) {
+        rt.stdout().write_all(title)?;
+        tell(rt, recording)?;
     }
     Ok(())
-}
-
-/// Where the line that begins at an index ends, its newline included.
-fn line_end(bytes: &[u8], from: usize) -> usize
-    requires { from < length bytes.now }
-    ensures further { from < result }
-    ensures within { result ≤ length bytes.now }
-{
-    for i in from..bytes.len() {
-        if bytes[i] == b'\n' {
-            return i + 1;
-        }
-    }
-    bytes.len()
-}
-
-/// Where the next title line begins, or the end.
-fn title_from(bytes: &[u8], from: usize) -> usize
-    requires { from ≤ length bytes.now }
-    ensures not_before { from ≤ result }
-    ensures within { result ≤ length bytes.now }
-{
-    let mut at = from;
-    while at < bytes.len() && bytes[at] != b'#' {
-        at = line_end(bytes, at);
-    }
-    at
 }
 
 /// What was read and how it is judged, or the first fault.
@@ -67,9 +34,10 @@ fn tell(rt: &HostRuntime, recorded: &[u8]) -> anyhow::Result<()> {
         }
         Err(fault) => {
             let number = fault.denial.number();
-            let line = fault.line;
-            let column = fault.column;
-            println!(rt; "denial {number}, line {line}, column {column}")?;
+            println!(rt;
+                "denial {number}, line {}, column {}",
+                fault.line, fault.column
+            )?;
             Ok(())
         }
     }

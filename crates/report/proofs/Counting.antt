@@ -1,6 +1,8 @@
 -- The writes of a graph are those placed and those open; the modification orders hold those placed.
 use Rattle.std.proofs.Common.{◌≡◌, ℕ, zero, suc, ◌+◌, ◌<◌, ◌≤◌, Bool, true, false, cond, not, ◌&&◌, ◌||◌, T, eqb, ltb, List, [], ◌∷◌, length, get_or, Some, None, filter, Option, sym, refl, ap, ◌∙◌, subst, inl, inr, add-one, arith}
+use Rattle.std.specs.List.{count_by}
 use Rattle.std.proofs.lemmas.List.{length-append}
+use Rattle.std.proofs.lemmas.List.Recursion.{is_count_by}
 use Rattle.std.proofs.lemmas.Bool.{cases_eq, cases_lt, lt-ltb, le-ltb}
 use Rattle.std.proofs.lemmas.Bool.Decides.{nat_tests}
 use Rattle.event.specs.declared.event.Event.{Event}
@@ -21,6 +23,21 @@ use Rattle.verdict.proofs.Counting.{count_same}
 use Rattle.judge.proofs.Counts.{count_none}
 use Rattle.judge.proofs.Lists.{first_of, first_more}
 use Rattle.report.specs.Reports.{writes, open_writes}
+
+-- the first number, and then the others
+count_from : (n : ℕ) (p : ℕ → Bool) → count (suc n) p ≡ cond (p 0) 1 0 + count n (λ k. p (suc k))
+count_from zero p = refl
+count_from (suc n) p = omega (arith, count_from n p)
+
+-- the writes, counted event by event
+pub writes_counted : (es : List Event) → count (length es) (λ w. is_write (get_or es w no_event).label) ≡ count_by (λ (e : Event). is_write e.label) es
+writes_counted =
+    is_count_by (λ (es : List Event). count (length es) (λ w. is_write (get_or es w no_event).label)) (λ (e : Event). is_write e.label) refl
+    (λ e es. count_from (length es) (λ w. is_write (get_or (e ∷ es) w no_event).label) ∙ one_more (is_write e.label) _)
+  where
+    one_more : (b : Bool) (n : ℕ) → cond b 1 0 + n ≡ cond b (1 + n) n
+    one_more true n = refl
+    one_more false n = omega arith
 
 -- one more number counted
 count_more : (n x : ℕ) (p : ℕ → Bool) → x < n → (T (p x) → ⊥) → count n (λ y. eqb x y || p y) ≡ suc (count n p)

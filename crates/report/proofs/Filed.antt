@@ -9,8 +9,6 @@ use Rattle.execution.specs.Content.{Content}
 use Rattle.execution.specs.Sound.{Sound}
 use Rattle.recording.specs.Headings.{Heading}
 use Rattle.model.specs.Meaning.{Meaning, Rules}
-use Rattle.model.specs.Layers.{layer, fenced, within_threads}
-use Rattle.model.specs.Layered.{layer_rules, fenced_grows, within_threads_grows}
 use Rattle.boards.specs.declared.board.Board.{Board}
 use Rattle.boards.specs.Boards.{numbered, meaning_of}
 use Rattle.boards.specs.OfBoard.{board_rules}
@@ -18,7 +16,7 @@ use Rattle.verdict.specs.Denials.{unread, too_wide}
 use Rattle.verdict.specs.Answers.{Answer, allowed, cyclic, no_placement, denied, RightUnless, laid}
 use Rattle.report.specs.Pages.{report_line, line_denial}
 use Rattle.report.specs.Reports.{report}
-use Rattle.report.specs.Piles.{piled}
+use Rattle.piles.specs.OfPile.{piled_rules}
 use Rattle.report.specs.Printing.{print_denial, answered, LawfullyPrinted}
 use Rattle.report.specs.Files.{denial_text, told_as, pile_of, ToldOf, Stands}
 use Rattle.report.proofs.Spelled.{line_length}
@@ -145,15 +143,11 @@ told_fits Serves before r after kept short long = elim (cases_lt (length before)
       subst (λ (x : Result ℕ Denial). IfOk x (λ n. n ≤ length before)) (sym t.returned) fits
 ]
 
-pile_rules : (threads : ℕ) (barriers : Bool) (m : Meaning) → Rules m → Rules (piled threads barriers m)
-pile_rules threads true m rules = layer_rules (within_threads threads) (layer fenced m) (within_threads_grows threads) (layer_rules fenced m fenced_grows rules)
-pile_rules threads false m rules = layer_rules (within_threads threads) m (within_threads_grows threads) rules
-
 -- a whole file is told in one way
 pub one_telling : (h : Heading) (g : Content) → Sound g → (x y : List ℕ) → ToldOf h g x → ToldOf h g y → x ≡ y
 one_telling h g sound x y p q =
     let same-board : q.board ≡ p.board =
     let one = p.chosen in let two = q.chosen in cc in
     let right : RightUnless (print_denial g 17934) (pile_of h p.board) g q.answer = subst (λ (b : Board). RightUnless (print_denial g 17934) (pile_of h b) g q.answer) same-board q.right in
-    let same = same_printed (pile_of h p.board) (pile_rules h.strong (eqb h.barrier 1) (meaning_of p.board) (board_rules p.board)) g sound 17934 p.answer q.answer p.right right in
+    let same = same_printed (pile_of h p.board) (piled_rules h.strong (eqb h.barrier 1) (meaning_of p.board) (board_rules p.board)) g sound 17934 p.answer q.answer p.right right in
     p.is ∙ ap (told_as g) same ∙ sym q.is

@@ -2,9 +2,10 @@
 use Rattle.std.proofs.Common.{◌≡◌, ℕ, zero, suc, ◌+◌, ◌*◌, ◌≤◌, Bool, true, false, cond, ltb, List, [], ◌∷◌, length, take, drop, refl, ap, mul-le-mul_left, arith}
 use Rattle.std.specs.List.{AllByRecursion}
 use Rattle.std.proofs.lemmas.List.{length-append, take-append-drop}
-use Rattle.std.proofs.ByRecursion.{All-take, All-drop}
+use Rattle.std.proofs.ByRecursion.{All-take, All-drop, All-from_get_or}
 use Rattle.verdict.specs.Answers.{joined}
 use Rattle.report.specs.Pages.{report_line}
+use Rattle.report.specs.declared.row.Row.{Row}
 use Rattle.report.specs.Texts.{Fits, Listable}
 use Rattle.report.specs.Reports.{lines_from, lists_from}
 use Rattle.report.specs.Flat.{cut, orders_from}
@@ -44,6 +45,9 @@ orders_length n l i (x ∷ xs) fl few each =
     let ih = orders_length n (cond b x l) (suc (cond b 0 i)) xs fits (omega arith) each.1 in
     let here = line_length 77 (cond b x l) (cond b 0 i) x fits (omega arith) each.0 in
     omega (arith, length-append (report_line 77 (cond b x l) (cond b 0 i) x) (orders_from n (cond b x l) (suc (cond b 0 i)) xs))
+
+pub row_listable : (r : Row) → Listable r.numbers.now
+row_listable r = record { few = r.few; each = All-from_get_or Fits r.numbers.now 0 r.fits }
 
 -- parts of a list
 module _ (n : ℕ) (xs : List ℕ) (l : Listable xs) where

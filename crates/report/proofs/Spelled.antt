@@ -5,6 +5,7 @@ use Rattle.std.proofs.lemmas.Fmt.{length-decimal-le}
 use Rattle.numeral.specs.Numerals.{justified}
 use Rattle.numeral.proofs.Laws.{length_justified}
 use Rattle.report.specs.Pages.{report_line}
+use Rattle.report.specs.declared.column.Column.{Column}
 
 pub four_digits : (n : ℕ) → n ≤ 9999 → length (decimal n) ≤ 4
 four_digits n l = length-decimal-le 4 n (omega arith) (omega arith) (omega arith)
@@ -40,3 +41,6 @@ line_length letter a b c la lb lc =
       length-append (justified 4 b) (justified 4 c ++ (10 ∷ [])),
       length-append (justified 4 c) (10 ∷ []),
     )
+
+pub columns_length : (letter : ℕ) (a b c : Column) → length (report_line letter a.number b.number c.number) ≡ 14
+columns_length letter a b c = line_length letter a.number b.number c.number a.fits b.fits c.fits

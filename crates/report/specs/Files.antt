@@ -14,7 +14,7 @@ use Rattle.verdict.specs.Answers.{Answer, allowed, cyclic, no_placement, denied,
 use Rattle.verdict.specs.Dealings.{judge}
 use Rattle.verdict.specs.Law.{Carries, is_denied}
 use Rattle.report.specs.Pages.{report_line}
-use Rattle.report.specs.Piles.{piled}
+use Rattle.piles.specs.Piles.{piled}
 use Rattle.report.specs.Reports.{report}
 use Rattle.report.specs.Printing.{print_denial}
 

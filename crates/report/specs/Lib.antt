@@ -3,6 +3,5 @@ pub mod Texts
 pub mod Reports
 pub mod Flat
 pub mod Printing
-pub mod Piles
 pub mod Tallies
 pub mod Files

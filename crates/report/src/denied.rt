@@ -5,6 +5,7 @@ ghost use Rattle.report.specs.Pages.{line_denial, report_line};
 ghost use Rattle.std.specs.Prelude.{◌≡◌, length, is_some, IfOk, if◌then◌else◌};
 ghost use Rattle.verdict.specs.Answers.{laid};
 
+use crate::column::Column;
 use crate::line::report_line;
 use event::Denial;
 
@@ -22,18 +23,12 @@ pub fn denial_line(
     ensures the_line_stands_in_front_and_the_rest_stays { page.new ≡ (if is_some (refusal result) then page.old else laid (report_line 68 number line place) page.old) }
     ensures answers_its_length { IfOk result (λ n. n ≡ 14) }
 {
-    if number > 9_999 {
-        return Err(Denial::Range(1));
-    }
-    if line > 9_999 {
-        return Err(Denial::Range(2));
-    }
-    if place > 9_999 {
-        return Err(Denial::Range(3));
-    }
+    let number = Column::new(number).ok_or(Denial::Range(1))?;
+    let line = Column::new(line).ok_or(Denial::Range(2))?;
+    let place = Column::new(place).ok_or(Denial::Range(3))?;
     if page.len() < PAGE {
         return Err(Denial::Page);
     }
-    page[0..14].copy_from_slice(&report_line(b'D', number as u32, line as u32, place as u32));
+    page[0..14].copy_from_slice(&report_line(b'D', number, line, place));
     Ok(14)
 }

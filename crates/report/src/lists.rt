@@ -1,76 +1,59 @@
 //! Lists of events, a line for each.
 
-ghost use Rattle.std.specs.Prelude.{◌+◌, ◌*◌, ◌≤◌, length};
+ghost use Rattle.std.specs.Prelude.{◌≡◌, ◌+◌, ◌*◌, ◌≤◌, length};
 ghost use Rattle.report.specs.Flat.{cut, orders_from};
 ghost use Rattle.report.specs.Reports.{lines_from, lists_from};
-ghost use Rattle.report.specs.Texts.{Fits, Listable, Written};
+ghost use Rattle.report.specs.Texts.{Written};
 
-use crate::line::write_line;
+use crate::column::Column;
+use crate::page::Page;
+use crate::row::Row;
 
-/// Writes a line for each event of a list, with the list's number and its position, and answers where they end.
-pub(crate) fn write_list(
-    letter: u8,
-    number: usize,
-    events: &[u16],
-    page: &mut [u8],
-    mut at: usize,
-) -> usize
-    requires number_fits { Fits number }
-    requires listable { Listable events.now }
-    requires room { at + 14 * length events.now ≤ length page.old }
-    ensures { Written at (lines_from letter number 0 events.now) page.old result page.new }
-{
-    for (position, event) in events.iter().enumerate() {
-        at = write_line(letter, number, position, *event as usize, page, at);
-    }
-    at
-}
-
-/// Writes the list of each order, which stand on the sheet one after the other, and answers where they end.
-pub(crate) fn write_lists(
-    orders: usize,
-    events: usize,
-    sheet: &[u16],
-    page: &mut [u8],
-    mut at: usize,
-) -> usize
-    requires orders_fit { Fits orders }
-    requires listable { Listable sheet.now }
-    requires there { orders * events ≤ length sheet.now }
-    requires room { at + 14 * (orders * events) ≤ length page.old }
-    ensures { Written at (lists_from 79 0 (cut orders events sheet.now)) page.old result page.new }
-{
-    let mut rest = sheet;
-    for order in 0..orders {
-        let (list, after) = rest.split_at(events);
-        at = write_list(b'O', order, list, page, at);
-        rest = after;
-    }
-    at
-}
-
-/// Writes the modification orders, which stand one after the other, and answers where they end.
-/// The initial writes have the lowest numbers, and each begins the order of its location.
-pub(crate) fn write_orders(
-    locations: usize,
-    writes: &[u16],
-    page: &mut [u8],
-    mut at: usize,
-) -> usize
-    requires listable { Listable writes.now }
-    requires room { at + 14 * length writes.now ≤ length page.old }
-    ensures { Written at (orders_from locations 0 0 writes.now) page.old result page.new }
-{
-    let mut location = 0;
-    let mut position = 0;
-    for write in writes {
-        let event = *write as usize;
-        if event < locations {
-            location = event;
-            position = 0;
+impl Page<'_> {
+    /// A line for each event of a list, with the list's number and its position.
+    pub(crate) fn list(&mut self, letter: u8, number: Column, events: Row)
+        requires room { self.old.at + 14 * length events.numbers.now ≤ 17934 }
+        ensures same_page { self.new.bytes.ghost_name ≡ self.old.bytes.ghost_name }
+        ensures written { Written self.old.at (lines_from letter number.number 0 events.entry.numbers.now) self.old.bytes.now self.new.at self.new.bytes.now }
+    {
+        for (position, event) in events.numbers.iter().enumerate() {
+            let event = Column::of(usize::from(*event));
+            self.line(letter, number, Column::of(position), event);
         }
-        at = write_line(b'M', location, position, event, page, at);
-        position += 1;
     }
-    at
+
+    /// The list of each order, which stand in a row one after the other.
+    pub(crate) fn lists(&mut self, orders: Column, events: usize, row: Row)
+        requires there { orders.number * events ≤ length row.numbers.now }
+        requires room { self.old.at + 14 * (orders.number * events) ≤ 17934 }
+        ensures same_page { self.new.bytes.ghost_name ≡ self.old.bytes.ghost_name }
+        ensures written { Written self.old.at (lists_from 79 0 (cut orders.number events row.entry.numbers.now)) self.old.bytes.now self.new.at self.new.bytes.now }
+    {
+        let mut rest = row;
+        for order in 0..orders.number {
+            let (list, after) = rest.split_at(events);
+            self.list(b'O', Column::of(order), list);
+            rest = after;
+        }
+    }
+
+    /// The modification orders, which stand in a row one after the other.
+    /// The initial writes have the lowest numbers, and each begins the order of its location.
+    pub(crate) fn orders(&mut self, locations: usize, writes: Row)
+        requires room { self.old.at + 14 * length writes.numbers.now ≤ 17934 }
+        ensures same_page { self.new.bytes.ghost_name ≡ self.old.bytes.ghost_name }
+        ensures written { Written self.old.at (orders_from locations 0 0 writes.entry.numbers.now) self.old.bytes.now self.new.at self.new.bytes.now }
+    {
+        let mut location = Column::of(0);
+        let mut position = 0;
+        for write in writes.numbers {
+            let event = Column::of(usize::from(*write));
+            if event.number < locations {
+                location = event;
+                position = 0;
+            }
+            self.line(b'M', location, Column::of(position), event);
+            position += 1;
+        }
+    }
 }

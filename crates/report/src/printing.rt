@@ -3,8 +3,10 @@
 ghost use Rattle.graph.specs.View.{of_closed};
 ghost use Rattle.report.specs.Printing.{LawfullyPrinted, OneReport, ReportsFit};
 
+use crate::column::Column;
 use crate::denied::PAGE;
-use crate::verdicts::{write_allowed, write_cycle, write_no_placement};
+use crate::page::Page;
+use crate::row::Row;
 use event::Denial;
 use graph::Closed;
 use judge::Judge;
@@ -22,12 +24,23 @@ pub fn print<M: Model>(graph: Closed, model: &M, page: &mut [u8]) -> Result<usiz
     if page.len() < PAGE {
         return Err(Denial::Page);
     }
+    let mut page = Page { bytes: page, at: 0 };
     match verdict {
-        Verdict::Allowed => Ok(write_allowed(graph.graph(), model.orders(), &sheet, page)),
-        Verdict::Cycle { order, length } => {
-            let cycle = &sheet[0..length as usize];
-            Ok(write_cycle(graph.graph(), order as usize, cycle, page))
+        Verdict::Allowed => {
+            let sheet = Row { numbers: &sheet };
+            page.allowed(graph.graph(), model.orders(), sheet);
+            Ok(page.at)
         }
-        Verdict::NoPlacement => Ok(write_no_placement(graph.graph(), page)),
+        Verdict::Cycle { order, length } => {
+            let cycle = Row {
+                numbers: &sheet[0..length as usize],
+            };
+            page.cycle(graph.graph(), Column::of(usize::from(order)), cycle);
+            Ok(page.at)
+        }
+        Verdict::NoPlacement => {
+            page.no_placement(graph.graph());
+            Ok(page.at)
+        }
     }
 }

@@ -39,14 +39,10 @@ impl fmt::Display for Tally {
     ghost output = { λ t. Some (tallied t.threads t.locations t.events t.links t.placed) };
 
     fn fmt<W: fmt::Write>(&self, f: &mut fmt::Formatter<W>) -> fmt::Result {
-        let threads = self.threads;
-        let locations = self.locations;
-        let events = self.events;
-        let links = self.links;
-        let placed = self.placed;
         write!(
             f,
-            "read: {threads} threads, {locations} locations, {events} events, {links} links, {placed} placed writes"
+            "read: {} threads, {} locations, {} events, {} links, {} placed writes",
+            self.threads, self.locations, self.events, self.links, self.placed
         )
     }
 }

@@ -7,14 +7,17 @@ ghost use Rattle.event.specs.declared.denial.Denial.TheVariants.{Page};
 ghost use Rattle.recording.specs.Headings.{heading_of};
 ghost use Rattle.recording.specs.Meaning.{meaning};
 ghost use Rattle.report.specs.Files.{Stands, Told, ToldOf, denial_text};
-ghost use Rattle.report.specs.Piles.{piled};
+ghost use Rattle.piles.specs.Piles.{piled};
 ghost use Rattle.report.specs.Printing.{LawfullyPrinted};
 
 use crate::denied::denial_line;
+use crate::named::pile_of;
 use crate::printing::print;
 use event::Denial;
-use model::{Barrier, Strong};
 use recording::Recording;
+
+/// The bytes of a file that can matter: 1,025 lines.
+pub const INPUT: u64 = 34_850;
 
 /// Reads a recording, prints it by the pile of its header, and answers how many bytes then stand on the page.
 /// A recording that is denied gets the denial line alone.
@@ -42,20 +45,12 @@ fn report_recording(recording: Recording, page: &mut [u8]) -> Result<usize, Deni
     }
 }
 
-/// Prints by the strong layer over the barrier layer, where that is asked for, over the model.
+/// Prints by the pile that the H line names.
 fn print_recording(recording: Recording, page: &mut [u8]) -> Result<usize, Denial>
     ensures { LawfullyPrinted (piled recording.header.strong recording.header.barrier (meaning_of recording.header.model)) (of_closed recording.graph) page.old result page.new }
 {
     let Recording { header, graph } = recording;
-    if header.barrier {
-        print(
-            graph,
-            &Strong::new(Barrier::new(header.model), header.strong),
-            page,
-        )
-    } else {
-        print(graph, &Strong::new(header.model, header.strong), page)
-    }
+    print(graph, &pile_of(header), page)
 }
 
 /// Writes the line that tells a denial.

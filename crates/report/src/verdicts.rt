@@ -4,50 +4,56 @@ ghost use Rattle.std.specs.Prelude.{◌≡◌, ◌≤◌, length};
 ghost use Rattle.graph.specs.View.{view};
 ghost use Rattle.report.specs.Flat.{from_sheet};
 ghost use Rattle.report.specs.Reports.{report, writes as all_writes};
-ghost use Rattle.report.specs.Texts.{Fits, Listable, Written};
+ghost use Rattle.report.specs.Texts.{Written};
 ghost use Rattle.verdict.specs.Answers.{cyclic, no_placement};
 
-use crate::line::write_line;
-use crate::lists::{write_list, write_lists, write_orders};
+use crate::column::Column;
+use crate::page::Page;
+use crate::row::Row;
 use graph::Graph;
 
-/// Writes the report of an allowed graph, whose lists and modification orders stand on the sheet, and answers its length.
-pub(crate) fn write_allowed(graph: &Graph, orders: usize, sheet: &[u16], page: &mut [u8]) -> usize
-    requires few { orders ≤ 4 }
-    requires sheet_is_long { 1280 ≤ length sheet.now }
-    requires listable { Listable sheet.now }
-    requires page_is_long { 17934 ≤ length page.old }
-    ensures { Written 0 (from_sheet (view graph.now) orders sheet.now) page.old result page.new }
-{
-    let events = graph.events().len();
-    let writes = writes_of(graph);
-    let (lists, rest) = sheet.split_at(orders * events);
-    let (placements, _) = rest.split_at(writes);
-    let mut at = write_line(b'A', orders, events, writes, page, 0);
-    at = write_lists(orders, events, lists, page, at);
-    write_orders(graph.locations() as usize, placements, page, at)
-}
+impl Page<'_> {
+    /// The report of an allowed graph, whose lists and modification orders stand on the sheet.
+    pub(crate) fn allowed(&mut self, graph: &Graph, orders: usize, sheet: Row)
+        requires from_the_start { self.old.at ≡ 0 }
+        requires few { orders ≤ 4 }
+        requires sheet_is_long { 1280 ≤ length sheet.numbers.now }
+        ensures same_page { self.new.bytes.ghost_name ≡ self.old.bytes.ghost_name }
+        ensures written { Written 0 (from_sheet (view graph.now) orders sheet.entry.numbers.now) self.old.bytes.now self.new.at self.new.bytes.now }
+    {
+        let events = graph.events().len();
+        let writes = writes_of(graph);
+        let (lists, rest) = sheet.split_at(orders * events);
+        let (placements, _) = rest.split_at(writes);
+        let orders = Column::of(orders);
+        self.line(b'A', orders, Column::of(events), Column::of(writes));
+        self.lists(orders, events, lists);
+        self.orders(graph.locations() as usize, placements);
+    }
 
-/// Writes the report of a graph that an order gives this cycle, and answers its length.
-pub(crate) fn write_cycle(graph: &Graph, order: usize, cycle: &[u16], page: &mut [u8]) -> usize
-    requires order_fits { Fits order }
-    requires short { length cycle.now ≤ 1280 }
-    requires listable { Listable cycle.now }
-    requires page_is_long { 17934 ≤ length page.old }
-    ensures { Written 0 (report (view graph.now) (cyclic order cycle.now)) page.old result page.new }
-{
-    let at = write_line(b'X', order, cycle.len(), graph.events().len(), page, 0);
-    write_list(b'C', order, cycle, page, at)
-}
+    /// The report of a graph that an order gives this cycle.
+    pub(crate) fn cycle(&mut self, graph: &Graph, order: Column, cycle: Row)
+        requires from_the_start { self.old.at ≡ 0 }
+        requires short { length cycle.numbers.now ≤ 1280 }
+        ensures same_page { self.new.bytes.ghost_name ≡ self.old.bytes.ghost_name }
+        ensures written { Written 0 (report (view graph.now) (cyclic order.number cycle.entry.numbers.now)) self.old.bytes.now self.new.at self.new.bytes.now }
+    {
+        let length = Column::of(cycle.numbers.len());
+        self.line(b'X', order, length, Column::of(graph.events().len()));
+        self.list(b'C', order, cycle);
+    }
 
-/// Writes the report of a graph that no placement serves, and answers its length.
-pub(crate) fn write_no_placement(graph: &Graph, page: &mut [u8]) -> usize
-    requires page_is_long { 17934 ≤ length page.old }
-    ensures { Written 0 (report (view graph.now) no_placement) page.old result page.new }
-{
-    let writes = writes_of(graph);
-    let open = writes - graph.placed().len();
-    write_line(b'N', open, graph.events().len(), writes, page, 0)
+    /// The report of a graph that no placement serves.
+    pub(crate) fn no_placement(&mut self, graph: &Graph)
+        requires from_the_start { self.old.at ≡ 0 }
+        ensures same_page { self.new.bytes.ghost_name ≡ self.old.bytes.ghost_name }
+        ensures written { Written 0 (report (view graph.now) no_placement) self.old.bytes.now self.new.at self.new.bytes.now }
+    {
+        let writes = writes_of(graph);
+        let open = Column::of(writes - graph.placed().len());
+        let events = Column::of(graph.events().len());
+        self.line(b'N', open, events, Column::of(writes));
+    }
 }
 
 /// How many writes a graph has, initial ones and updates included.
@@ -55,11 +61,9 @@ fn writes_of(graph: &Graph) -> usize
     ensures counted { result ≡ all_writes (view graph.now) }
     ensures few { result ≤ 256 }
 {
-    let mut writes = 0;
-    for event in graph.events() {
-        if event.label.writes() {
-            writes += 1;
-        }
-    }
-    writes
+    graph
+        .events()
+        .iter()
+        .filter(|event| event.label.writes())
+        .count()
 }

@@ -23,10 +23,10 @@ fn tell(rt: &HostRuntime, name: &str) -> anyhow::Result<()> {
     let path = format!(in rt.alloc(); "{name}.txt")?;
     let bytes = fs::read(rt, path.as_str())?;
     let mut page = [b' '; PAGE];
-    let Ok(length) = report::check_recording(bytes.as_slice(), &mut page) else {
-        return Err(anyhow!("the page is too short"));
-    };
+    let length = report::check_recording(bytes.as_slice(), &mut page).map_err(|_| anyhow!(
+        "the page is too short"
+    ))?;
     println!(rt; "# {name}")?;
-    rt.stdout().write_all(&page[0..length])?;
+    rt.stdout().write_all(&page[..length])?;
     Ok(())
 }

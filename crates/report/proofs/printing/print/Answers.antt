@@ -1,4 +1,4 @@
-use Rattle.std.proofs.Common.{◌≡◌, ℕ, ◌-◌, ◌≤◌, length, take, replicate, Err, Result, sym, ap, ◌∙◌, subst, subst₂, arith}
+use Rattle.std.proofs.Common.{◌≡◌, ℕ, ◌-◌, ◌≤◌, List, length, take, replicate, Ok, Err, Result, sym, ap, ◌∙◌, subst, subst₂, arith, rules}
 use Rattle.std.proofs.lemmas.Result.{err_from_is_err_and}
 use Rattle.std.proofs.lemmas.List.{length-take-le}
 use Rattle.event.specs.declared.denial.Denial.{Denial}
@@ -6,7 +6,8 @@ use Rattle.graph.specs.declared.tables.Graph.{Graph}
 use Rattle.graph.specs.View.{view, of_closed}
 use Rattle.graph.proofs.Soundness.{sound_of}
 use Rattle.verdict.specs.Answers.{cyclic, no_placement}
-use Rattle.report.specs.Texts.{Written}
+use Rattle.report.specs.Texts.{Fits, Listable, Written}
+use Rattle.std.proofs.ByRecursion.{All-get_or}
 use Rattle.report.specs.Flat.{from_sheet}
 use Rattle.report.specs.Reports.{report}
 use Rattle.report.specs.Printing.{LawfullyPrinted}
@@ -14,6 +15,8 @@ use Rattle.report.proofs.Lengths.{listable_take}
 use Rattle.report.proofs.Reporting.{one_report, reports_fit}
 use Rattle.report.proofs.Promised.{zeros_long, zeros_fit, printed_denied, printed_short, printed_allowed, printed_cycle, printed_no_placement, cycle_fits, sheet_listable}
 use Rattle.report.proofs.printing.print.Goals as goal
+use Rattle.report.proofs.printing.print.Goals.{In_ok-verdict}
+use Rattle.report.proofs.printing.print.Given.{Over}
 
 pub returns-in_err-verdict : goal.returns-in_err-verdict
 returns-in_err-verdict g c =
@@ -40,19 +43,6 @@ returns-then-page-lt-PAGE g c =
       every_report_fits_the_shortest_page = reports_fit;
     }
 
-pub write_allowed-requires : goal.write_allowed-requires
-write_allowed-requires g c =
-    let x = c.args.model.now in
-    let m = g.M.Model.meaning x in
-    let many : length c.judge.new.sheet ≡ 1280 = omega (arith, c.judge.auto.sheet, zeros_long) in
-    record {
-      few = omega (arith, c.orders.ensures.as_many_as_it_means, (g.met.M.Model.rules x).few.1);
-      sheet_is_long = omega (arith, many);
-      listable = sheet_listable m (of_closed c.args.graph) c.args.page.now (replicate 1280 0) c.judge.new.sheet zeros_long c.in_ok-verdict.verdict
-          c.in_ok-verdict.ensures.judged_rightly_and_the_law_holds_of_every_run_that_makes_this_graph (g.met.M.Model.rules x) (sound_of c.args.graph.graph) (zeros_fit 1280) many;
-      page_is_long = c.if-page-lt-PAGE.false;
-    }
-
 pub slice_bounds-cycle-end : goal.slice_bounds-cycle-end
 slice_bounds-cycle-end g c =
     let x = c.args.model.now in
@@ -61,31 +51,34 @@ slice_bounds-cycle-end g c =
     let within : c.in-Cycle.length ≤ length c.judge.new.sheet = omega (arith, fits.1, c.judge.auto.sheet, zeros_long) in
     within
 
-pub write_cycle-requires : goal.write_cycle-requires
-write_cycle-requires g c =
-    let x = c.args.model.now in
-    let m = g.M.Model.meaning x in
-    let lawful = c.in_ok-verdict.ensures.judged_rightly_and_the_law_holds_of_every_run_that_makes_this_graph in
-    let many : length c.judge.new.sheet ≡ 1280 = omega (arith, c.judge.auto.sheet, zeros_long) in
-    let fits = cycle_fits m (of_closed c.args.graph) c.args.page.now (replicate 1280 0) c.judge.new.sheet zeros_long c.in_ok-verdict.verdict
-    lawful c.in-Cycle.order c.in-Cycle.length c.in-Cycle.is (g.met.M.Model.rules x) (sound_of c.args.graph.graph) in
-    let sheet = sheet_listable m (of_closed c.args.graph) c.args.page.now (replicate 1280 0) c.judge.new.sheet zeros_long c.in_ok-verdict.verdict lawful (g.met.M.Model.rules x) (sound_of c.args.graph.graph) (zeros_fit 1280) many in
-    record {
-      order_fits = omega (arith, fits.0, (g.met.M.Model.rules x).few.1);
-      short = omega (arith, length-take-le (c.in-Cycle.length - 0) c.judge.new.sheet (omega (arith, fits.1, many)), fits.1);
-      listable = listable_take (c.in-Cycle.length - 0) c.judge.new.sheet sheet;
-      page_is_long = c.if-page-lt-PAGE.false;
-    }
+-- the numbers on the sheet
+module _ (g : Over) (c : In_ok-verdict g) where
+  shown : Listable c.judge.new.sheet
+  shown =
+      let x = c.args.model.now in
+      sheet_listable (g.M.Model.meaning x) (of_closed c.args.graph) c.args.page.now (replicate 1280 0) c.judge.new.sheet zeros_long c.in_ok-verdict.verdict
+      c.in_ok-verdict.ensures.judged_rightly_and_the_law_holds_of_every_run_that_makes_this_graph (g.met.M.Model.rules x) (sound_of c.args.graph.graph) (zeros_fit 1280) (c.judge.auto.sheet ∙ zeros_long)
+
+pub invariant_of-sheet : goal.invariant_of-sheet
+invariant_of-sheet g c =
+    let sheet = shown g (goal.at.invariant_of-sheet g c).In_ok-verdict in
+    record { few = sheet.few; fits = λ i l. All-get_or Fits c.judge.new.sheet i 0 l sheet.each }
+
+pub invariant_of-cycle : goal.invariant_of-cycle
+invariant_of-cycle g c =
+    let cycle = listable_take (c.in-Cycle.length - 0) c.judge.new.sheet (shown g (goal.at.invariant_of-cycle g c).In_ok-verdict) in
+    record { few = cycle.few; fits = λ i l. All-get_or Fits (take (c.in-Cycle.length - 0) c.judge.new.sheet) i 0 l cycle.each }
 
 pub returns-in-Allowed : goal.returns-in-Allowed
 returns-in-Allowed g c =
     let m = g.M.Model.meaning c.args.model.now in
     let sheet = c.judge.new.sheet in
-    let w = subst (λ (x : Graph). Written 0 (from_sheet (view x) c.orders.result sheet) c.args.page.now c.write_allowed.result c.write_allowed.new.page) c.graph.ensures.its_graph c.write_allowed.ensures in
+    let w = subst (λ (x : Graph). Written 0 (from_sheet (view x) c.orders.result sheet) c.args.page.now c.allowed.new.self.at c.allowed.new.self.bytes.now) c.graph.ensures.its_graph c.allowed.ensures.written in
     record {
       the_right_report_and_the_law_holds_of_every_run_that_makes_this_graph =
-          printed_allowed m (of_closed c.args.graph) c.args.page.now (replicate 1280 0) sheet zeros_long c.in_ok-verdict.verdict
-          c.in_ok-verdict.ensures.judged_rightly_and_the_law_holds_of_every_run_that_makes_this_graph c.in-Allowed.is c.if-page-lt-PAGE.false c.orders.result _ _ c.orders.ensures.as_many_as_it_means w;
+          subst (λ (after : List ℕ). LawfullyPrinted m (of_closed c.args.graph) c.args.page.now (Ok c.allowed.new.self.at) after) (search rules)
+          (printed_allowed m (of_closed c.args.graph) c.args.page.now (replicate 1280 0) sheet zeros_long c.in_ok-verdict.verdict
+          c.in_ok-verdict.ensures.judged_rightly_and_the_law_holds_of_every_run_that_makes_this_graph c.in-Allowed.is c.if-page-lt-PAGE.false c.orders.result _ _ c.orders.ensures.as_many_as_it_means w);
       no_other_result_or_page_is_right = one_report;
       every_report_fits_the_shortest_page = reports_fit;
     }
@@ -95,12 +88,15 @@ returns-in-Cycle g c =
     let m = g.M.Model.meaning c.args.model.now in
     let sheet = c.judge.new.sheet in
     let order = c.in-Cycle.order in
+    let same : c.of.result.number ≡ order = c.of.ensures ∙ c.from.ensures in
+    let cycle = subst (λ (k : ℕ). Written 0 (report (view c.graph-in-Cycle.result.now) (cyclic k (take (c.in-Cycle.length - 0) sheet))) c.args.page.now c.cycle.new.self.at c.cycle.new.self.bytes.now) same c.cycle.ensures.written in
     let from_zero : c.in-Cycle.length - 0 ≡ c.in-Cycle.length = omega arith in
-    let w = subst₂ (λ (x : Graph) (n : ℕ). Written 0 (report (view x) (cyclic order (take n sheet))) c.args.page.now c.write_cycle.result c.write_cycle.new.page) c.graph-in-Cycle.ensures.its_graph from_zero c.write_cycle.ensures in
+    let w = subst₂ (λ (x : Graph) (n : ℕ). Written 0 (report (view x) (cyclic order (take n sheet))) c.args.page.now c.cycle.new.self.at c.cycle.new.self.bytes.now) c.graph-in-Cycle.ensures.its_graph from_zero cycle in
     record {
       the_right_report_and_the_law_holds_of_every_run_that_makes_this_graph =
-          printed_cycle m (of_closed c.args.graph) c.args.page.now (replicate 1280 0) sheet zeros_long c.in_ok-verdict.verdict
-          c.in_ok-verdict.ensures.judged_rightly_and_the_law_holds_of_every_run_that_makes_this_graph order c.in-Cycle.length c.in-Cycle.is c.if-page-lt-PAGE.false _ _ w;
+          subst (λ (after : List ℕ). LawfullyPrinted m (of_closed c.args.graph) c.args.page.now (Ok c.cycle.new.self.at) after) (search rules)
+          (printed_cycle m (of_closed c.args.graph) c.args.page.now (replicate 1280 0) sheet zeros_long c.in_ok-verdict.verdict
+          c.in_ok-verdict.ensures.judged_rightly_and_the_law_holds_of_every_run_that_makes_this_graph order c.in-Cycle.length c.in-Cycle.is c.if-page-lt-PAGE.false _ _ w);
       no_other_result_or_page_is_right = one_report;
       every_report_fits_the_shortest_page = reports_fit;
     }
@@ -108,11 +104,12 @@ returns-in-Cycle g c =
 pub returns-in-NoPlacement : goal.returns-in-NoPlacement
 returns-in-NoPlacement g c =
     let m = g.M.Model.meaning c.args.model.now in
-    let w = subst (λ (x : Graph). Written 0 (report (view x) no_placement) c.args.page.now c.write_no_placement.result c.write_no_placement.new.page) c.graph-in-NoPlacement.ensures.its_graph c.write_no_placement.ensures in
+    let w = subst (λ (x : Graph). Written 0 (report (view x) no_placement) c.args.page.now c.no_placement.new.self.at c.no_placement.new.self.bytes.now) c.graph-in-NoPlacement.ensures.its_graph c.no_placement.ensures.written in
     record {
       the_right_report_and_the_law_holds_of_every_run_that_makes_this_graph =
-          printed_no_placement m (of_closed c.args.graph) c.args.page.now (replicate 1280 0) c.judge.new.sheet zeros_long c.in_ok-verdict.verdict
-          c.in_ok-verdict.ensures.judged_rightly_and_the_law_holds_of_every_run_that_makes_this_graph c.in-NoPlacement.is c.if-page-lt-PAGE.false _ _ w;
+          subst (λ (after : List ℕ). LawfullyPrinted m (of_closed c.args.graph) c.args.page.now (Ok c.no_placement.new.self.at) after) (search rules)
+          (printed_no_placement m (of_closed c.args.graph) c.args.page.now (replicate 1280 0) c.judge.new.sheet zeros_long c.in_ok-verdict.verdict
+          c.in_ok-verdict.ensures.judged_rightly_and_the_law_holds_of_every_run_that_makes_this_graph c.in-NoPlacement.is c.if-page-lt-PAGE.false _ _ w);
       no_other_result_or_page_is_right = one_report;
       every_report_fits_the_shortest_page = reports_fit;
     }

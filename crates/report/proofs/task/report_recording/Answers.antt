@@ -5,7 +5,7 @@ use Rattle.boards.specs.declared.board.Board.{Board}
 use Rattle.boards.specs.declared.board.Board.TheVariants.{Coh, C11, Ra, Tso, Sc}
 use Rattle.boards.specs.Boards.{numbered, meaning_of}
 use Rattle.verdict.specs.Answers.{laid}
-use Rattle.report.specs.Piles.{piled}
+use Rattle.piles.specs.Piles.{piled}
 use Rattle.report.specs.Printing.{LawfullyPrinted}
 use Rattle.report.specs.Files.{denial_text, ToldOf, pile_of}
 use Rattle.report.proofs.Filed.{printed_long, printed_never_short, page_kept, denial_told}

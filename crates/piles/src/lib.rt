@@ -1,0 +1,6 @@
+//! Piles of layers over a board.
+#![tactic(auto)]
+
+mod pile;
+
+pub use pile::Pile;

@@ -1,0 +1,19 @@
+//! The pile that an H line names.
+
+ghost use Rattle.std.specs.Prelude.{◌≡◌};
+
+use piles::Pile;
+use recording::Header;
+
+/// The strong layer over the barrier layer, where that is asked for, over the model.
+pub(crate) fn pile_of(header: Header) -> Pile
+    ensures its_board { result.board ≡ header.model }
+    ensures its_barrier { result.barrier ≡ header.barrier }
+    ensures its_threads { result.strong ≡ header.strong }
+{
+    Pile {
+        board: header.model,
+        barrier: header.barrier,
+        strong: header.strong,
+    }
+}

@@ -84,7 +84,7 @@ fn measure(rt: &HostRuntime, name: &str, writes: Writes, rounds: u32) -> io::Res
 }
 
 fn main(rt: HostRuntime) -> io::Result<()> {
-    let rounds = timing::rounds(&rt);
+    let rounds = timing::rounds(&rt)?;
     for (name, writes) in [
         ("eight that fit at once", Writes::Free),
         ("eight of one thread", Writes::OneThread),

@@ -61,7 +61,7 @@ fn answers(rt: &HostRuntime, shape: Shape) -> io::Result<()> {
 }
 
 fn main(rt: HostRuntime) -> io::Result<()> {
-    let rounds = timing::rounds(&rt);
+    let rounds = timing::rounds(&rt)?;
     for shape in Shape::ALL {
         answers(&rt, shape)?;
         measure(&rt, rounds, shape, "build", |table, _| {

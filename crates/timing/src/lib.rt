@@ -4,20 +4,17 @@
 ghost use Rattle.std.specs.Prelude.{IfOk};
 ghost use Rattle.std.specs.List.{FoldsTo, range_with_len};
 
-use std::env::Env;
-use std::io;
 use std::time::{Clock, Duration, Instant};
+use std::{env, io};
 
-/// The number of rounds: the program's argument, or one where it has none.
-pub fn rounds(rt: &impl Env) -> u32 {
-    argument(rt).unwrap_or(1)
-}
-
-/// The program's first argument, if it is a number.
-fn argument(rt: &impl Env) -> Option<u32> {
-    let mut word = [0u8; 10];
-    let len = rt.arg(1, &mut word).ok()?;
-    str::from_utf8(word.get(..len)?).ok()?.parse().ok()
+/// The number of rounds: the first of the program's arguments that is a number, or one where none is.
+pub fn rounds(rt: &HostRuntime) -> io::Result<u32> {
+    let mut words = env::args(rt)?.skip(1);
+    Ok(
+        words
+            .find_map(|word| word.as_str().parse().ok())
+            .unwrap_or(1),
+    )
 }
 
 /// The least time that a round of the work took. The work is told the round's number, from 0 on.

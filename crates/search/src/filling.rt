@@ -1,4 +1,5 @@
 //! Open writes placed one after the other, from the lowest number and the first place on.
+//! The graph changes with every call and the model does not, so the two are no pair with methods here.
 ghost use Rattle.std.specs.Prelude.{MatchBool};
 ghost use Rattle.graph.specs.View.{view};
 ghost use Rattle.verdict.specs.Fillings.{Fillable};

@@ -1,14 +1,15 @@
 -- Lists of lists, one after the other.
-use Rattle.std.proofs.Common.{◌≡◌, ℕ, zero, suc, ◌+◌, ◌<◌, ◌≤◌, List, [], ◌∷◌, ◌++◌, map, length, get_or, sym, refl, ap, ◌∙◌, subst, inl, inr, add-one, arith}
-use Rattle.std.proofs.lemmas.List.{append-nil, append_assoc, map-append, length-append, length_push, get_or_append_left, get_or_push}
+use Rattle.std.proofs.Common.{◌≡◌, ℕ, zero, suc, ◌+◌, ◌<◌, ◌≤◌, List, [], ◌∷◌, ◌++◌, Bool, true, cond, map, filter, length, take, drop, get_or, sym, refl, ap, ◌∙◌, subst, inl, inr, add-one, arith}
+use Rattle.std.proofs.lemmas.List.{append-nil, append_assoc, map-append, length-append, length_push, get_or_append_left, get_or_push, take-append-drop, drop_more}
+use Rattle.std.proofs.lemmas.List.Elements.{filter-append}
 use Rattle.std.proofs.lemmas.Bool.{cases_eq}
 use Rattle.execution.specs.Lists.{upto}
 use Rattle.execution.specs.Content.{Content}
 use Rattle.cycles.specs.Listings.{Listing}
 use Rattle.model.specs.Meaning.{Meaning}
-use Rattle.verdict.specs.Answers.{joined, laid}
-use Rattle.judge.specs.Sheets.{put, Listed, ListsLaid}
-use Rattle.judge.proofs.Sheets.{put_behind}
+use Rattle.verdict.specs.Answers.{joined}
+use Rattle.judge.specs.Sheets.{Listed}
+use Rattle.judge.specs.Judges.{ListsShown}
 
 pub joined_push : (xss : List (List ℕ)) (ys : List ℕ) → joined (xss ++ (ys ∷ [])) ≡ joined xss ++ ys
 joined_push [] ys = append-nil ys
@@ -50,17 +51,25 @@ module _ (m : Meaning) (h : Content) where
     ];
   }
 
-  pub lists_none : (s : List ℕ) → ListsLaid m h 0 0 s s
-  lists_none s = record { lists = []; listed = record { as_many = refl; listed = λ k l. absurd (omega arith) }; ends = refl; sheet = refl }
+  pub lists_none : ListsShown m h 0 []
+  lists_none = record { lists = []; listed = record { as_many = refl; listed = λ k l. absurd (omega arith) }; all = refl; few = omega arith }
 
-  pub lists_more : (n end next : ℕ) (xs before was after : List ℕ) → ListsLaid m h n end before was → Listing (m.pairs h n) (length h.events) xs
-      → end ≤ length before → next ≡ end + length xs → after ≡ put end xs was → ListsLaid m h (n + 1) next before after
-  lists_more n end next xs before was after s new fits on wrote =
-      let more = joined_push s.lists xs in
-      record {
-        lists = s.lists ++ (xs ∷ []);
-        listed = listed_more n s.lists xs s.listed new;
-        ends = on ∙ ap (λ (k : ℕ). k + length xs) s.ends ∙ sym (ap length more ∙ length-append (joined s.lists) xs);
-        sheet = wrote ∙ ap (λ (k : ℕ). put k xs was) s.ends ∙ ap (λ (zs : List ℕ). put (length (joined s.lists)) xs zs) s.sheet
-            ∙ put_behind (joined s.lists) xs before (omega (arith, s.ends)) ∙ ap (λ (zs : List ℕ). laid zs before) (sym more);
-      }
+  pub lists_more : (n : ℕ) (xs before after : List ℕ) → ListsShown m h n before → Listing (m.pairs h n) (length h.events) xs → length xs ≤ 256 → after ≡ before ++ xs → ListsShown m h (n + 1) after
+  lists_more n xs before after s new small e = record {
+    lists = s.lists ++ (xs ∷ []);
+    listed = listed_more n s.lists xs s.listed new;
+    all = e ∙ ap (λ (zs : List ℕ). zs ++ xs) s.all ∙ sym (joined_push s.lists xs);
+    few = omega (arith, ap length e, length-append before xs, s.few, small);
+  }
+
+-- of those in a list that pass, the first ones up to one that passes are fewer
+module _ (p : ℕ → Bool) (xs : List ℕ) (i : ℕ) (l : i < length xs) where
+  kept_first : (b : Bool) (x : ℕ) (ys : List ℕ) → b ≡ true → 0 < length (cond b (x ∷ ys) ys)
+  kept_first b x ys e = grind arith
+
+  -- there is room for one that passes
+  pub kept_room : p (get_or xs i 0) ≡ true → length (filter p (take i xs)) < length (filter p xs)
+  kept_room e =
+      let split = ap (filter p) (sym (take-append-drop i xs) ∙ ap (λ (zs : List ℕ). take i xs ++ zs) (drop_more xs i 0 l)) ∙ filter-append p (take i xs) (get_or xs i 0 ∷ drop (i + 1) xs) in
+      let some = kept_first (p (get_or xs i 0)) (get_or xs i 0) (filter p (drop (i + 1) xs)) e in
+      omega (arith, ap length split, length-append (filter p (take i xs)) (filter p (get_or xs i 0 ∷ drop (i + 1) xs)))

@@ -1,5 +1,7 @@
 -- A graph is too wide where an open write goes to a crowded location.
-use Rattle.std.proofs.Common.{◌≡◌, ℕ, ◌<◌, true, false, ◌&&◌, T, ltb, length, Some, None, Option, sym, refl, ap, subst, inl, inr}
+use Rattle.std.proofs.Common.{◌≡◌, ℕ, ◌+◌, ◌<◌, ◌≤◌, Bool, true, false, ◌&&◌, T, ltb, length, get_or, MatchBool, Some, None, Option, sym, refl, ap, ◌∙◌, zero-add, subst, inl, inr, arith}
+use Rattle.std.specs.List.{range_with_len, AllWithin, HoldsAt}
+use Rattle.std.proofs.lemmas.List.FromFn.{length-range_with_len, get_or-range_with_len}
 use lib.Dec.{eqb_refl}
 use Rattle.std.proofs.lemmas.Bool.{cases_lt, lt-ltb, ltb-true, eqb-true}
 use Rattle.event.specs.Labels.{is_write, agree, location}
@@ -54,3 +56,12 @@ module _ (g : Content) (none : (w : ℕ) → w < length g.events → T (is_open 
 
   pub not_wide_by : false ≡ ltb 0 (count g.locations (wide_at g))
   not_wide_by = sym (ap (λ (n : ℕ). ltb 0 n) (count_none g.locations (wide_at g) (λ l k h. never_wide l h)))
+
+pub wide_tells : (g : Content) → Sound g → (n : ℕ) → n ≡ length g.events → (r : Bool)
+    → MatchBool r ((k : ℕ) × (k < length (range_with_len 0 n)) × HoldsAt (λ w. T (is_open g w && crowded g (location (label_of g w)))) (range_with_len 0 n) k)
+    (AllWithin (λ w. T (is_open g w && crowded g (location (label_of g w))) → ⊥) (range_with_len 0 n) 0 (length (range_with_len 0 n)))
+    → r ≡ ltb 0 (count g.locations (wide_at g))
+wide_tells g s n e true (k, within, at) = let w = get_or (range_with_len 0 n) k 0 in wide_by g s w (left (is_open g w) _ (at 0)) (right (is_open g w) _ (at 0))
+wide_tells g s n e false none = not_wide_by g (λ w l o c.
+    let within : w < length (range_with_len 0 n) = omega (arith, length-range_with_len 0 n) in
+    subst (λ (x : ℕ). T (is_open g x && crowded g (location (label_of g x))) → ⊥) (get_or-range_with_len 0 n w 0 (omega arith) ∙ zero-add w) (none w 0 (omega arith) within) (both (is_open g w) _ o c))

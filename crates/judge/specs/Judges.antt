@@ -1,28 +1,35 @@
 -- What the parts of a judge promise one another.
-use Rattle.std.specs.Prelude.{◌≡◌, ℕ, Bool, List, ◌++◌, length}
+use Rattle.std.specs.Prelude.{◌≡◌, ℕ, ◌*◌, ◌<◌, ◌≤◌, List, ◌++◌, length, Some, None, Option}
 use Rattle.execution.specs.Content.{Content}
-use Rattle.cycles.specs.Cycles.{FirstCycle}
-use Rattle.model.specs.Meaning.{Meaning}
-use Rattle.verdict.specs.declared.verdict.Verdict.{Verdict}
-use Rattle.verdict.specs.declared.verdict.Verdict.TheVariants.{Cycle as has_cycle}
+use Rattle.cycles.specs.Cycles.{Acyclic, FirstCycle}
+use Rattle.relation.specs.declared.sequence.Sequence.{Sequence}
+use Rattle.relation.specs.Sequences.{events}
+use Rattle.model.specs.Meaning.{Meaning, Serves}
 use Rattle.verdict.specs.Shown.{modification_orders}
-use Rattle.verdict.specs.States.{State}
-use Rattle.verdict.specs.Answers.{joined, laid}
+use Rattle.verdict.specs.Answers.{joined}
+use Rattle.verdict.specs.Places.{PlacedFirst}
 use Rattle.judge.specs.Sheets.{Listed}
 
--- a graph, and whether it is closed
-abbrev pub state_of : Bool → Content → State
-state_of closed g = record { content = g; closed = closed }
+-- the lowest order that has a cycle, with its first cycle, or none where no order has one
+abbrev pub FirstFound : Meaning → Content → Option (ℕ × Sequence) → Type 0
+FirstFound m g None = Serves m g
+FirstFound m g (Some (k, cycle)) = (k < m.orders) × FirstCycle (m.pairs g k) (events cycle) × ((j : ℕ) → j < k → Acyclic (m.pairs g j))
 
--- the first cycle of an order is told, and stands at the start of the sheet
-pub record CycleShown (m : Meaning) (g : Content) (k : ℕ) (before : List ℕ) (result : Verdict) (after : List ℕ) : Type 0 where
-  pub cycle : List ℕ
-  pub first : FirstCycle (m.pairs g k) cycle
-  pub returned : result ≡ has_cycle k (length cycle)
-  pub sheet : after ≡ laid cycle before
+-- the lists of the first n orders are shown, each of 256 events at most
+pub record ListsShown (m : Meaning) (h : Content) (n : ℕ) (shown : List ℕ) : Type 0 where
+  pub lists : List (List ℕ)
+  pub listed : Listed m h n lists
+  pub all : shown ≡ joined lists
+  pub few : length shown ≤ 256 * n
 
--- the lists of h and then its modification orders stand at the start of the sheet
-pub record OrderShown (m : Meaning) (h : Content) (before after : List ℕ) : Type 0 where
+-- the lists of h are shown, and behind them its modification orders
+pub record OrderShown (m : Meaning) (h : Content) (shown : List ℕ) : Type 0 where
   pub lists : List (List ℕ)
   pub listed : Listed m h m.orders lists
-  pub sheet : after ≡ laid (joined lists ++ joined (modification_orders h)) before
+  pub all : shown ≡ joined lists ++ joined (modification_orders h)
+
+-- the graph is allowed, and that is shown of its first full modification order
+pub record AllowedShown (m : Meaning) (g : Content) (shown : List ℕ) : Type 0 where
+  pub full : Content
+  pub first : PlacedFirst m g full
+  pub order : OrderShown m full shown

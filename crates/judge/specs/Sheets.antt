@@ -1,14 +1,14 @@
--- Writing to a sheet, part after part.
-use Rattle.std.specs.Prelude.{◌≡◌, ℕ, ◌+◌, ◌<◌, Bool, List, [], ◌++◌, length, take, drop, Some, slice_index_or}
+-- What is shown, part behind part.
+use Rattle.std.specs.Prelude.{◌≡◌, ℕ, ◌+◌, ◌<◌, Bool, List, [], ◌++◌, length, Some, slice_index_or, Result, MatchResult}
 use Rattle.event.specs.Labels.{agree, location}
 use Rattle.execution.specs.Content.{Content, label_of}
 use Rattle.cycles.specs.Listings.{Listing}
 use Rattle.model.specs.Meaning.{Meaning}
-use Rattle.verdict.specs.Answers.{joined, laid}
+use Rattle.sequence.specs.declared.sequence.Full.{Full}
 
--- a sheet with xs written from a place on; before and past that it stays
-unfoldable pub put : ℕ → List ℕ → List ℕ → List ℕ
-put at xs sheet = take at sheet ++ (xs ++ drop (at + length xs) sheet)
+-- xs now stands behind what was shown, or there is no room for it among 1280 events
+abbrev pub Added : List ℕ → List ℕ → Result (Unit {0}) Full → List ℕ → Type 0
+Added xs before result after = MatchResult result (λ _. after ≡ before ++ xs) (λ _. 1280 < length before + length xs)
 
 -- w accesses the location l
 abbrev pub at_location : Content → ℕ → ℕ → Bool
@@ -18,10 +18,3 @@ at_location g l w = agree (location (label_of g w)) (Some l)
 pub record Listed (m : Meaning) (h : Content) (n : ℕ) (lists : List (List ℕ)) : Type 0 where
   pub as_many : length lists ≡ n
   pub listed : (k : ℕ) → k < n → Listing (m.pairs h k) (length h.events) (slice_index_or lists k [])
-
--- the lists of the first n orders stand at the start of a sheet and end at a place; past that it is as before
-pub record ListsLaid (m : Meaning) (h : Content) (n end : ℕ) (before after : List ℕ) : Type 0 where
-  pub lists : List (List ℕ)
-  pub listed : Listed m h n lists
-  pub ends : end ≡ length (joined lists)
-  pub sheet : after ≡ laid (joined lists) before

@@ -1,16 +1,15 @@
 //! The verdict on a graph.
 ghost use Rattle.graph.specs.View.{view, of_open, of_closed};
 ghost use Rattle.verdict.specs.States.{State, as_open, as_closed};
-ghost use Rattle.verdict.specs.Judging.{OneVerdict};
+ghost use Rattle.verdict.specs.Judging.{Judged, OneVerdict};
 ghost use Rattle.verdict.specs.Law.{Lawful};
-ghost use Rattle.judge.specs.Judges.{state_of};
 
-use crate::denial::check_judge;
-use crate::showing::{show_cycle, show_order};
+use crate::denial::{check_judge, check_links};
+use crate::showing::write;
+use crate::under::Under;
 use event::Denial;
 use graph::{Closed, Graph, Open};
 use model::Model;
-use search::{lowest_cyclic, search};
 use verdict::Verdict;
 
 /// A graph that can be judged. A judge changes nothing but the sheet that it is handed.
@@ -30,7 +29,7 @@ impl Judge for Open {
     ghost state = { λ o. as_open (of_open o) };
 
     fn judge<M: Model>(&self, model: &M, sheet: &mut [u16]) -> Result<Verdict, Denial> {
-        judge_graph(self.graph(), false, model, sheet)
+        judge_graph(self.graph(), model, sheet)
     }
 }
 
@@ -38,26 +37,28 @@ impl Judge for Closed {
     ghost state = { λ c. as_closed (of_closed c) };
 
     fn judge<M: Model>(&self, model: &M, sheet: &mut [u16]) -> Result<Verdict, Denial> {
-        judge_graph(self.graph(), true, model, sheet)
+        let graph = self.graph();
+        check_links(graph)?;
+        judge_graph(graph, model, sheet)
     }
 }
 
-/// Judges a graph that is open or closed.
-fn judge_graph<M: Model>(
-    graph: &Graph,
-    closed: bool,
-    model: &M,
-    sheet: &mut [u16],
-) -> Result<Verdict, Denial>
-    ensures { Lawful (M.Model.meaning model.now) (state_of closed (view graph.now)) sheet.old result sheet.new }
+/// Judges a graph, whichever reads are linked.
+fn judge_graph<M: Model>(graph: &Graph, model: &M, sheet: &mut [u16]) -> Result<Verdict, Denial>
+    ensures { Judged (M.Model.meaning model.now) (as_open (view graph.now)) sheet.old result sheet.new }
 {
-    check_judge(graph, closed, sheet.len())?;
-    if let Some(order) = lowest_cyclic(graph, model) {
-        return Ok(show_cycle(graph, model, order, sheet));
+    check_judge(graph, sheet.len())?;
+    let under = Under { graph, model };
+    if let Some((order, cycle)) = under.first_cycle() {
+        write(cycle.as_slice(), sheet);
+        return Ok(Verdict::Cycle {
+            order: order as u8,
+            length: cycle.len() as u16,
+        });
     }
-    match search(graph, model) {
-        Some(full) => {
-            show_order(&full, model, sheet);
+    match under.allowed() {
+        Some(shown) => {
+            write(shown.as_slice(), sheet);
             Ok(Verdict::Allowed)
         }
         None => Ok(Verdict::NoPlacement),

@@ -3,7 +3,7 @@
 
 mod denial;
 mod judging;
-mod sheet;
 mod showing;
+mod under;
 
 pub use judging::Judge;

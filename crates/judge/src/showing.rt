@@ -1,86 +1,67 @@
-//! What a verdict is shown with.
-ghost use Rattle.std.specs.Prelude.{◌<◌, ◌≤◌, length};
+//! What a verdict is shown with: events, one behind the other.
+ghost use Rattle.std.specs.Prelude.{◌≡◌, ◌≤◌, length};
 ghost use Rattle.graph.specs.View.{view};
-ghost use Rattle.relation.specs.Table.{Is};
-ghost use Rattle.cycles.specs.Cycles.{Acyclic, Cyclic};
-ghost use Rattle.cycles.specs.Listings.{Listing};
-ghost use Rattle.relation.specs.Sequences.{events};
-ghost use Rattle.judge.specs.Sheets.{ListsLaid};
-ghost use Rattle.judge.specs.Judges.{CycleShown, OrderShown};
-ghost use Rattle.model.specs.Meaning.{Serves};
+ghost use Rattle.sequence.specs.Sequences.{items};
+ghost use Rattle.verdict.specs.Answers.{laid};
+ghost use Rattle.verdict.specs.Shown.{modification_order, modification_orders};
+ghost use Rattle.verdict.specs.Answers.{joined};
+ghost use Rattle.judge.specs.Sheets.{Added, at_location};
 
-use crate::sheet::{write_events, write_modification_orders};
 use graph::Graph;
-use model::Model;
-use relation::{Relation, Sequence};
-use verdict::Verdict;
+use model::laying::locations::location_of;
+use sequence::{Full, Sequence};
 
-/// Writes the first cycle of an order that has one, and tells it.
-pub(crate) fn show_cycle<M: Model>(
-    graph: &Graph,
-    model: &M,
-    order: usize,
-    sheet: &mut [u16],
-) -> Verdict
-    requires few { order < 4 }
-    requires cyclic { Cyclic ((M.Model.meaning model.now).pairs (view graph.now) order) }
-    requires room { 256 ≤ length sheet.old }
-    ensures { CycleShown (M.Model.meaning model.now) (view graph.now) order sheet.old result sheet.new }
+/// How many events are shown at most: four lists of 256, and 256 writes.
+pub(crate) const ROOM: usize = 1280;
+
+/// Events to show.
+pub(crate) type Shown = Sequence<u8, ROOM>;
+
+/// Writes events from the start of the sheet on.
+pub(crate) fn write(events: &[u8], sheet: &mut [u16])
+    requires { length events.now ≤ length sheet.old }
+    ensures { sheet.new ≡ laid events.now sheet.old }
 {
-    let table = table_of(graph, model, order);
-    let Some(cycle) = table.first_cycle() else {
-        unreachable()
-    };
-    let length = write_events(cycle.as_slice(), sheet, 0);
-    Verdict::Cycle {
-        order: order as u8,
-        length: length as u16,
+    for (i, event) in events.iter().enumerate() {
+        sheet[i] = u16::from(*event);
     }
 }
 
-/// Writes the lists of a full modification order that serves, and then each location's order.
-pub(crate) fn show_order<M: Model>(full: &Graph, model: &M, sheet: &mut [u16])
-    requires serves { Serves (M.Model.meaning model.now) (view full.now) }
-    requires room { 1280 ≤ length sheet.old }
-    ensures { OrderShown (M.Model.meaning model.now) (view full.now) sheet.old sheet.new }
+/// Adds events, where there is room for them.
+pub(crate) fn add(events: &[u8], shown: &mut Shown) -> Result<(), Full>
+    ensures { Added events.now (items shown.old) result (items shown.new) }
 {
-    let at = write_lists(full, model, sheet);
-    write_modification_orders(full, sheet, at);
-}
-
-/// Writes the list of all events for each order, order by order, and answers where they end.
-fn write_lists<M: Model>(full: &Graph, model: &M, sheet: &mut [u16]) -> usize
-    requires serves { Serves (M.Model.meaning model.now) (view full.now) }
-    requires room { 1024 ≤ length sheet.old }
-    ensures few { result ≤ 1024 }
-    ensures laid { ListsLaid (M.Model.meaning model.now) (view full.now) (M.Model.meaning model.now).orders result sheet.old sheet.new }
-{
-    let mut at = 0;
-    for order in 0..model.orders() {
-        let list = list_of(full, model, order);
-        at = write_events(list.as_slice(), sheet, at);
+    for event in events {
+        shown.push(*event)?;
     }
-    at
+    Ok(())
 }
 
-/// The list of all events by an order that has no cycle.
-fn list_of<M: Model>(graph: &Graph, model: &M, order: usize) -> Sequence
-    requires { Acyclic ((M.Model.meaning model.now).pairs (view graph.now) order) }
-    ensures listed { Listing ((M.Model.meaning model.now).pairs (view graph.now) order) (length (view graph.now).events) (events result) }
-    ensures few { length (events result) ≤ 256 }
+/// Adds each location's modification order, location by location.
+pub(crate) fn add_modification_orders(graph: &Graph, shown: &mut Shown) -> Result<(), Full>
+    ensures { Added (joined (modification_orders (view graph.now))) (items shown.old) result (items shown.new) }
 {
-    let table = table_of(graph, model, order);
-    let Some(list) = table.list(graph.events().len()) else {
-        unreachable()
-    };
-    list
+    for location in 0..graph.locations() {
+        add_modification_order(graph, location, shown)?;
+    }
+    Ok(())
 }
 
-/// The table of an order's pairs.
-fn table_of<M: Model>(graph: &Graph, model: &M, order: usize) -> Relation
-    ensures { Is result ((M.Model.meaning model.now).pairs (view graph.now) order) }
+/// Adds a location's modification order.
+fn add_modification_order(graph: &Graph, location: u8, shown: &mut Shown) -> Result<(), Full>
+    ensures { Added (modification_order (view graph.now) location) (items shown.old) result (items shown.new) }
 {
-    let mut table = Relation::empty();
-    model.lay(graph, order, &mut table);
-    table
+    for write in graph.placed() {
+        if accesses(graph, *write, location) {
+            shown.push(*write)?;
+        }
+    }
+    Ok(())
+}
+
+/// Whether an event accesses a location.
+fn accesses(graph: &Graph, event: u8, location: u8) -> bool
+    ensures { result ≡ at_location (view graph.now) location event }
+{
+    location_of(graph, event) == Some(location)
 }

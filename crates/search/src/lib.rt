@@ -4,5 +4,5 @@
 mod cyclic;
 mod filling;
 
-pub use cyclic::lowest_cyclic;
+pub use cyclic::{lowest_cyclic, table_of};
 pub use filling::search;

@@ -1,48 +1,56 @@
-use Rattle.std.proofs.Common.{Err, Result, sym, ap, ◌∙◌, subst}
+use Rattle.std.proofs.Common.{ℕ, ◌≤◌, List, length, Ok, Err, Result, sym, ap, ◌∙◌, subst, subst₂, arith, rules}
 use Rattle.std.proofs.lemmas.Result.{err_from_is_err_and}
 use Rattle.event.specs.declared.denial.Denial.{Denial}
 use Rattle.graph.specs.View.{view}
+use Rattle.relation.specs.Sequences.{events}
+use Rattle.relation.proofs.Sequenced.{events_length}
+use Rattle.sequence.specs.Sequences.{items}
 use Rattle.verdict.specs.declared.verdict.Verdict.{Verdict}
+use Rattle.verdict.specs.declared.verdict.Verdict.TheVariants.{Cycle as has_cycle}
+use Rattle.verdict.specs.Answers.{laid}
 use Rattle.verdict.specs.Judging.{Judged}
-use Rattle.verdict.proofs.Outcomes.{judged_denied, judged_no_placement}
-use Rattle.judge.specs.Judges.{state_of}
-use Rattle.judge.proofs.Judgements.{cyclic_as_shown, allowed_as_shown, lawful}
+use Rattle.verdict.specs.States.{as_open}
+use Rattle.verdict.proofs.Outcomes.{judged_cyclic, judged_denied, judged_no_placement}
+use Rattle.judge.proofs.Judgements.{allowed_as_shown}
 use Rattle.judge.proofs.judging.judge_graph.Goals as goal
 
 pub returns-in_err-check_judge : goal.returns-in_err-check_judge
 returns-in_err-check_judge g c =
-    let x = c.args.model.now in
-    let m = g.M.Model.meaning x in
-    let s = state_of c.args.closed (view c.args.graph.now) in
+    let m = g.M.Model.meaning c.args.model.now in
+    let s = as_open (view c.args.graph.now) in
     let before = c.args.sheet.now in
-    let p = err_from_is_err_and c.from_residual.result c.from_residual.ensures.1 in
-    lawful m (g.met.M.Model.rules x) s before _ before
-    (subst (λ (r : Result Verdict Denial). Judged m s before r before) (sym (p.1 ∙ ap (λ (d : Denial). Err d) p.2))
-    (judged_denied m s before _ (sym c.in_err-check_judge.ensures.first_test_that_fails)))
+    let e = err_from_is_err_and c.from_residual.result c.from_residual.ensures.1 in
+    subst (λ (r : Result Verdict Denial). Judged m s before r before) (sym (e.1 ∙ ap (λ (d : Denial). Err d) e.2))
+    (judged_denied m s before _ (sym c.in_err-check_judge.ensures.first_test_that_fails))
+
+pub write-requires : goal.write-requires
+write-requires g c =
+    let room : 1280 ≤ length c.args.sheet.now = search rules in
+    omega (arith, room, c.in-Some.cycle.bounded, events_length c.in-Some.cycle, ap length c.as_slice.ensures.is_the_events_in_order)
+
+pub overflow_cast-result-in-Some : goal.overflow_cast-result-in-Some
+overflow_cast-result-in-Some g c =
+    let small : c.len.result ≤ 256 = omega (arith, c.in-Some.cycle.bounded, events_length c.in-Some.cycle, c.len.ensures.counts_the_events) in
+    search rules
 
 pub returns-in-Some : goal.returns-in-Some
 returns-in-Some g c =
-    let x = c.args.model.now in
-    let m = g.M.Model.meaning x in
-    let s = state_of c.args.closed (view c.args.graph.now) in
-    let found = c.in-Some.ensures.the_lowest_or_none_exactly_when_no_order_has_a_cycle in
-    lawful m (g.met.M.Model.rules x) s c.args.sheet.now _ _
-    (cyclic_as_shown m s c.args.sheet.now (sym c.in_ok-check_judge.ensures.first_test_that_fails) c.in-Some.order _ _ found.0 found.2 c.show_cycle.ensures)
+    let m = g.M.Model.meaning c.args.model.now in
+    let s = as_open (view c.args.graph.now) in
+    let before = c.args.sheet.now in
+    let xs = events c.in-Some.cycle in
+    let found = c.in-Some.ensures in
+    subst₂ (λ (n : ℕ) (after : List ℕ). Judged m s before (Ok (has_cycle c.in-Some.order n)) after) (sym c.len.ensures.counts_the_events)
+    (sym (c.write.ensures ∙ ap (λ (zs : List ℕ). laid zs before) c.as_slice.ensures.is_the_events_in_order))
+    (judged_cyclic m s before (sym c.in_ok-check_judge.ensures.first_test_that_fails) c.in-Some.order xs found.0 found.2 found.1)
 
-pub returns-in-Some-search : goal.returns-in-Some-search
-returns-in-Some-search g c =
-    let x = c.args.model.now in
-    let m = g.M.Model.meaning x in
-    let s = state_of c.args.closed (view c.args.graph.now) in
-    lawful m (g.met.M.Model.rules x) s c.args.sheet.now _ _
-    (allowed_as_shown m s c.args.sheet.now (sym c.in_ok-check_judge.ensures.first_test_that_fails) (view c.in-Some-search.full) _
-    c.in-Some-search.ensures.the_first_that_serves_or_none_exactly_when_none_does c.show_order.ensures)
+pub returns-in-Some-allowed : goal.returns-in-Some-allowed
+returns-in-Some-allowed g c =
+    let before = c.args.sheet.now in
+    allowed_as_shown (g.M.Model.meaning c.args.model.now) (as_open (view c.args.graph.now)) before (sym c.in_ok-check_judge.ensures.first_test_that_fails) (items c.in-Some-allowed.shown) _
+    c.in-Some-allowed.ensures (c.write-in-Some-allowed.ensures ∙ ap (λ (zs : List ℕ). laid zs before) c.as_slice-in-Some-allowed.ensures.is_the_items_in_order)
 
 pub returns-in-None : goal.returns-in-None
 returns-in-None g c =
-    let x = c.args.model.now in
-    let m = g.M.Model.meaning x in
-    let s = state_of c.args.closed (view c.args.graph.now) in
-    lawful m (g.met.M.Model.rules x) s c.args.sheet.now _ _
-    (judged_no_placement m s c.args.sheet.now (sym c.in_ok-check_judge.ensures.first_test_that_fails)
-    c.in_default.ensures.the_lowest_or_none_exactly_when_no_order_has_a_cycle c.in-None.ensures.the_first_that_serves_or_none_exactly_when_none_does)
+    judged_no_placement (g.M.Model.meaning c.args.model.now) (as_open (view c.args.graph.now)) c.args.sheet.now (sym c.in_ok-check_judge.ensures.first_test_that_fails)
+    c.in_default.ensures c.in-None.ensures

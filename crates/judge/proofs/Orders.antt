@@ -1,5 +1,5 @@
 -- What is asked of an order's table is asked of the order, and what is shown is added part by part.
-use Rattle.std.proofs.Common.{◌≡◌, ℕ, ◌+◌, ◌<◌, ◌≤◌, Bool, T, ltb, min, List, ◌++◌, length, MatchOption, Some, None, Option, Ok, Err, Result, sym, subst, arith}
+use Rattle.std.proofs.Common.{◌≡◌, ℕ, ◌+◌, ◌<◌, ◌≤◌, Bool, ltb, min, List, ◌++◌, length, MatchOption, Some, None, Option, Ok, Err, Result, sym, subst, arith}
 use Rattle.std.specs.Result.{result_ok}
 use Rattle.execution.proofs.Tests.{right}
 use Rattle.relation.specs.declared.table.Relation.{Relation}

@@ -1,5 +1,5 @@
 -- A graph is too wide where an open write goes to a crowded location.
-use Rattle.std.proofs.Common.{◌≡◌, ℕ, ◌+◌, ◌<◌, ◌≤◌, Bool, true, false, ◌&&◌, T, ltb, length, get_or, MatchBool, Some, None, Option, sym, refl, ap, ◌∙◌, zero-add, subst, inl, inr, arith}
+use Rattle.std.proofs.Common.{◌≡◌, ℕ, ◌<◌, Bool, true, false, ◌&&◌, T, ltb, length, get_or, MatchBool, Some, None, Option, sym, refl, ap, ◌∙◌, zero-add, subst, inl, inr, arith}
 use Rattle.std.specs.List.{range_with_len, AllWithin, HoldsAt}
 use Rattle.std.proofs.lemmas.List.FromFn.{length-range_with_len, get_or-range_with_len}
 use lib.Dec.{eqb_refl}

@@ -1,4 +1,4 @@
-use Rattle.std.proofs.Common.{ℕ, ◌≤◌, List, length, filter, take, sym, ap, length-append, arith}
+use Rattle.std.proofs.Common.{ℕ, List, length, filter, take, sym, ap, length-append, arith}
 use Rattle.std.proofs.lemmas.Result.{err_from_is_err_and}
 use Rattle.std.proofs.lemmas.Bool.{ltb-false}
 use Rattle.graph.specs.View.{view}

@@ -1,4 +1,4 @@
-use Rattle.std.proofs.Common.{ℕ, rules}
+use Rattle.std.proofs.Common.{rules}
 use Rattle.std.proofs.lemmas.Iterator.{first_from_Range}
 use Rattle.graph.specs.View.{view}
 use Rattle.cycles.specs.Cycles.{Acyclic, Cyclic}

@@ -1,4 +1,4 @@
-use Rattle.std.proofs.Common.{length, sym, ◌∙◌, arith}
+use Rattle.std.proofs.Common.{sym, ◌∙◌, arith}
 use Rattle.graph.specs.View.{view}
 use Rattle.graph.proofs.Soundness.{sound_of}
 use Rattle.sequence.specs.Sequences.{items}

@@ -2,7 +2,7 @@
 use Rattle.std.specs.Prelude.{◌≡◌, ℕ, ◌*◌, ◌<◌, ◌≤◌, List, ◌++◌, length, Some, None, Option}
 use Rattle.execution.specs.Content.{Content}
 use Rattle.cycles.specs.Cycles.{Acyclic, FirstCycle}
-use Rattle.relation.specs.declared.sequence.Sequence.{Sequence}
+use Rattle.sequence.specs.declared.sequence.Sequence.{Sequence}
 use Rattle.relation.specs.Sequences.{events}
 use Rattle.model.specs.Meaning.{Meaning, Serves}
 use Rattle.verdict.specs.Shown.{modification_orders}
@@ -11,7 +11,7 @@ use Rattle.verdict.specs.Places.{PlacedFirst}
 use Rattle.judge.specs.Sheets.{Listed}
 
 -- the lowest order that has a cycle, with its first cycle, or none where no order has one
-abbrev pub FirstFound : Meaning → Content → Option (ℕ × Sequence) → Type 0
+abbrev pub FirstFound : Meaning → Content → Option (ℕ × Sequence ℕ 256) → Type 0
 FirstFound m g None = Serves m g
 FirstFound m g (Some (k, cycle)) = (k < m.orders) × FirstCycle (m.pairs g k) (events cycle) × ((j : ℕ) → j < k → Acyclic (m.pairs g j))
 

@@ -3,7 +3,6 @@ use Rattle.std.proofs.lemmas.Result.{err_from_is_err_and}
 use Rattle.event.specs.declared.denial.Denial.{Denial}
 use Rattle.graph.specs.View.{view}
 use Rattle.relation.specs.Sequences.{events}
-use Rattle.relation.proofs.Sequenced.{events_length}
 use Rattle.sequence.specs.Sequences.{items}
 use Rattle.verdict.specs.declared.verdict.Verdict.{Verdict}
 use Rattle.verdict.specs.declared.verdict.Verdict.TheVariants.{Cycle as has_cycle}
@@ -26,11 +25,11 @@ returns-in_err-check_judge g c =
 pub write-requires : goal.write-requires
 write-requires g c =
     let room : 1280 ≤ length c.args.sheet.now = search rules in
-    omega (arith, room, c.in-Some.cycle.bounded, events_length c.in-Some.cycle, ap length c.as_slice.ensures.is_the_events_in_order)
+    omega (arith, room, c.as_slice.ensures.no_more_than_fit)
 
 pub overflow_cast-result-in-Some : goal.overflow_cast-result-in-Some
 overflow_cast-result-in-Some g c =
-    let small : c.len.result ≤ 256 = omega (arith, c.in-Some.cycle.bounded, events_length c.in-Some.cycle, c.len.ensures.counts_the_events) in
+    let small : c.len.result ≤ 256 = omega (arith, c.len.ensures.counts_the_items, c.as_slice.ensures.no_more_than_fit, ap length c.as_slice.ensures.is_the_items_in_order) in
     search rules
 
 pub returns-in-Some : goal.returns-in-Some
@@ -40,8 +39,8 @@ returns-in-Some g c =
     let before = c.args.sheet.now in
     let xs = events c.in-Some.cycle in
     let found = c.in-Some.ensures in
-    subst₂ (λ (n : ℕ) (after : List ℕ). Judged m s before (Ok (has_cycle c.in-Some.order n)) after) (sym c.len.ensures.counts_the_events)
-    (sym (c.write.ensures ∙ ap (λ (zs : List ℕ). laid zs before) c.as_slice.ensures.is_the_events_in_order))
+    subst₂ (λ (n : ℕ) (after : List ℕ). Judged m s before (Ok (has_cycle c.in-Some.order n)) after) (sym c.len.ensures.counts_the_items)
+    (sym (c.write.ensures ∙ ap (λ (zs : List ℕ). laid zs before) c.as_slice.ensures.is_the_items_in_order))
     (judged_cyclic m s before (sym c.in_ok-check_judge.ensures.first_test_that_fails) c.in-Some.order xs found.0 found.2 found.1)
 
 pub returns-in-Some-allowed : goal.returns-in-Some-allowed

@@ -25,7 +25,7 @@ returns-in_err-ok g c =
       c.loop-order.invariant.few,
       c.loop-order-test.true,
       c.orders-order-end.ensures.as_many_as_it_means,
-      ap length c.as_slice.ensures.is_the_events_in_order,
+      ap length c.as_slice.ensures.is_the_items_in_order,
       c.in_ok-list.ensures.the_list_has_each_event_once,
     )))
 
@@ -41,4 +41,4 @@ loop-order-preserved g c =
     many fits c.in_ok-list.ensures.else_each_is_the_lowest_that_is_ready in
     let now = added c.as_slice.result.now (items c.loop-order.shown) (items c.add.new.shown) c.add.result c.in_ok-ok.field-0 (sym c.ok.ensures.value ∙ c.in_ok-ok.was) c.add.ensures in
     lists_more m h k xs (items c.loop-order.shown) (items c.add.new.shown) c.loop-order.invariant listed (omega (arith, c.in_ok-list.ensures.the_list_has_each_event_once))
-    (now ∙ ap (λ (zs : List ℕ). items c.loop-order.shown ++ zs) c.as_slice.ensures.is_the_events_in_order)
+    (now ∙ ap (λ (zs : List ℕ). items c.loop-order.shown ++ zs) c.as_slice.ensures.is_the_items_in_order)

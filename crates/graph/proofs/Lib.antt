@@ -1,4 +1,4 @@
-pub mod Fronts
 pub mod Soundness
 pub mod Behind
+pub mod Next
 pub mod Stored

@@ -6,7 +6,7 @@ use Rattle.execution.specs.Content.{Content}
 use Rattle.graph.specs.Tables.{content}
 
 abbrev pub view : Graph → Content
-view g = content g.threads g.locations g.events g.count g.sources g.placed g.standing
+view g = content g.threads g.locations g.events g.sources g.placed
 
 abbrev pub of_open : Open → Content
 of_open o = view o.graph

@@ -1,6 +1,7 @@
 //! Linking a read to its source.
 
 ghost use Rattle.std.specs.Prelude.{◌≡◌};
+ghost use Rattle.execution.specs.Content.{source_of};
 ghost use Rattle.execution.specs.Entries.{denial, step, link};
 ghost use Rattle.event.specs.Denials.{refusal};
 ghost use Rattle.graph.specs.View.{view};
@@ -9,6 +10,13 @@ use crate::tables::Graph;
 use event::Denial;
 
 impl Graph {
+    /// The write that a read is linked to.
+    fn source(&self, read: u32) -> Option<u8>
+        ensures { result ≡ source_of (view self.now) read }
+    {
+        self.sources().get(read as usize).copied().flatten()
+    }
+
     fn check_link(&self, read: u32, source: u32) -> Result<(), Denial>
         ensures first_test_that_fails { refusal result ≡ denial (view self.now) (link read source) }
     {
@@ -26,7 +34,7 @@ impl Graph {
         if !from.writes_value_of(to) {
             return Err(Denial::Value);
         }
-        if self.sources[read as usize].is_some() {
+        if self.source(read).is_some() {
             return Err(Denial::Twice);
         }
         Ok(())
@@ -38,7 +46,7 @@ impl Graph {
         ensures one_step { view self.new ≡ step (view self.old) (link read source) }
     {
         self.check_link(read, source)?;
-        self.sources[read as usize] = Some(source as u8);
+        self.sources.set(read as usize, Some(source as u8));
         Ok(())
     }
 }

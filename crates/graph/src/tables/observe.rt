@@ -26,67 +26,51 @@ impl Graph {
     pub fn label(&self, event: u32) -> Option<Label>
         ensures of_every_event_that_stands { result ≡ (if stands (view self.now) event then Some (label_of (view self.now) event) else None) }
     {
-        let at = event as usize;
-        if at < self.count {
-            Some(self.events[at].label)
-        } else {
-            None
-        }
+        self.events().get(event as usize).map(|event| event.label)
     }
 
     /// The events by number.
     pub fn events(&self) -> &[Event]
         ensures all_events_in_order { result.now ≡ (view self.now).events }
     {
-        &self.events[0..self.count]
+        self.events.as_slice()
     }
 
     /// For each event the write that it is linked to.
     pub fn sources(&self) -> &[Option<u8>]
         ensures all_sources_in_order { result.now ≡ (view self.now).sources }
     {
-        &self.sources[0..self.count]
+        self.sources.as_slice()
     }
 
     /// Every placed write. Those of one location stand in its modification order.
     pub fn placed(&self) -> &[u8]
         ensures placed_writes_in_order { result.now ≡ (view self.now).placed }
     {
-        &self.placed[0..self.standing]
+        self.placed.as_slice()
     }
 
     /// How many reads are linked.
     pub fn links(&self) -> usize
         ensures number_of_linked_reads { result ≡ count_by is_some (view self.now).sources }
     {
-        let mut links = 0;
-        for source in self.sources() {
-            if source.is_some() {
-                links += 1;
-            }
-        }
-        links
+        self.sources()
+            .iter()
+            .filter(|source| source.is_some())
+            .count()
     }
 
     /// Whether the event is a write that is not placed.
     pub fn is_open(&self, event: u32) -> bool
         ensures write_that_is_not_placed { result ≡ is_open (view self.now) event }
     {
-        match self.label(event) {
-            Some(label) => label.writes() && place_of(self.placed(), event).is_none(),
-            None => false,
-        }
+        self.label(event).is_some_and(Label::writes) && place_of(self.placed(), event).is_none()
     }
 
     /// The lowest open write from a number on.
     pub fn next_open(&self, from: u32) -> Option<u32>
         ensures lowest_open_write_from_there { NextOpen (view self.now) from result }
     {
-        for event in from..self.count as u32 {
-            if self.is_open(event) {
-                return Some(event);
-            }
-        }
-        None
+        (from..self.events.len() as u32).find(|event| self.is_open(*event))
     }
 }

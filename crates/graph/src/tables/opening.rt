@@ -7,6 +7,7 @@ ghost use Rattle.graph.specs.View.{view};
 
 use crate::tables::Graph;
 use event::{Event, Label, Mode, Size};
+use sequence::Sequence;
 
 /// The write of 0 that a location begins with.
 fn initial_write(location: u8) -> Event
@@ -26,21 +27,20 @@ impl Graph {
     pub(crate) fn new(size: Size) -> Graph
         ensures opens { view result ≡ opening size.threads size.locations }
     {
-        let locations = size.locations();
-        let mut events = [initial_write(0); 256];
-        let mut placed = [0u8; 256];
-        for l in 0..locations {
-            events[l as usize] = initial_write(l);
-            placed[l as usize] = l;
+        let mut events = Sequence::empty(initial_write(0));
+        let mut sources = Sequence::empty(None);
+        let mut placed = Sequence::empty(0);
+        for location in 0..size.locations() {
+            events.push(initial_write(location)).unwrap();
+            sources.push(None).unwrap();
+            placed.push(location).unwrap();
         }
         Graph {
             threads: size.threads(),
-            locations,
+            locations: size.locations(),
             events,
-            sources: [None; 256],
-            count: locations as usize,
+            sources,
             placed,
-            standing: locations as usize,
         }
     }
 }

@@ -1,7 +1,6 @@
 //! Placing a write in its location's modification order.
 
-ghost use Rattle.std.specs.Prelude.{◌≡◌, ◌+◌, ◌<◌, false, take, IfOk, MatchOption};
-ghost use Rattle.std.specs.List.{insert};
+ghost use Rattle.std.specs.Prelude.{◌≡◌, false, IfOk, MatchOption};
 ghost use Rattle.execution.specs.Lists.{holds, FirstAt};
 ghost use Rattle.execution.specs.Entries.{denial, step, place};
 ghost use Rattle.event.specs.Denials.{refusal};
@@ -14,27 +13,7 @@ use event::Denial;
 pub(crate) fn place_of(placed: &[u8], write: u32) -> Option<usize>
     ensures first_place_or_none { MatchOption result (holds placed.now write ≡ false) (λ i. FirstAt placed.now write i) }
 {
-    for (i, w) in placed.iter().enumerate() {
-        if *w as u32 == write {
-            return Some(i);
-        }
-    }
-    None
-}
-
-/// The placed writes with one more directly behind the one at an index.
-fn insert_behind(mut placed: [u8; 256], standing: usize, at: usize, write: u8) -> [u8; 256]
-    requires within { at < standing }
-    requires room { standing < 256 }
-    ensures { take (standing + 1) result ≡ insert (take standing placed) (at + 1) write }
-{
-    let mut carried = write;
-    for i in at + 1..standing + 1 {
-        let next = placed[i];
-        placed[i] = carried;
-        carried = next;
-    }
-    placed
+    placed.iter().position(|placed| u32::from(*placed) == write)
 }
 
 impl Graph {
@@ -66,9 +45,7 @@ impl Graph {
         ensures one_step { view self.new ≡ step (view self.old) (place write after) }
     {
         let at = self.place_to_follow(write, after)?;
-        let placed = insert_behind(self.placed, self.standing, at, write as u8);
-        self.placed = placed;
-        self.standing += 1;
+        self.placed.insert(at + 1, write as u8).unwrap();
         Ok(())
     }
 }

@@ -1,5 +1,5 @@
 //! What a sequence tells, and what adds to it.
-ghost use Rattle.std.specs.Prelude.{◌≡◌, ◌≤◌, [], ◌∷◌, ◌++◌, length, if◌then◌else◌, is_ok, nat_lt};
+ghost use Rattle.std.specs.Prelude.{◌≡◌, ◌≤◌, [], ◌∷◌, ◌++◌, length, if◌then◌else◌, is_ok, nat_lt, slice_set};
 ghost use Rattle.std.specs.List.{insert};
 ghost use Rattle.sequence.specs.Sequences.{items};
 
@@ -57,5 +57,15 @@ impl<T: Copy, const N: usize> Sequence<T, N> {
             places[at..self.len].rotate_right(1);
         }
         Ok(())
+    }
+
+    /// Puts an item in place of the one at an index, if one is there.
+    pub fn set(&mut self, at: usize, item: T)
+        ensures in_place_of_the_one_there { items self.new ≡ slice_set (items self.old) at item }
+    {
+        if at < self.len {
+            let places = &mut self.places[..];
+            places[at] = item;
+        }
     }
 }

@@ -1,28 +1,31 @@
-use Rattle.std.proofs.Common.{sym, ◌∙◌, arith, length-take-le}
+use Rattle.std.proofs.Common.{◌≡◌, ◌+◌, sym, ◌∙◌, arith, rules}
+use Rattle.std.specs.List.{insert}
 use Rattle.execution.specs.Entries.{place}
+use Rattle.sequence.specs.Sequences.{items}
+use Rattle.sequence.proofs.Fits.{items_fit}
 use Rattle.graph.specs.View.{view}
-use Rattle.graph.proofs.Stored.{not_denied, entered_sound, place_room, place_stored}
+use Rattle.graph.proofs.Stored.{not_denied, entered_sound, place_room, place_write, placed}
 use Rattle.graph.proofs.tables.Graph.place.Goals as goal
 
-pub insert_behind-placed-requires : goal.insert_behind-placed-requires
-insert_behind-placed-requires c =
-    let first = c.in_ok-at.ensures.its_first_place in
-    record { within = omega (arith, length-take-le c.args.self.now.standing c.args.self.now.placed (omega arith)); room = place_room c.args.self.now c.args.write c.args.after c.in_ok-at.ensures.first_test_that_fails }
+pub overflow_add-at : goal.overflow_add-at
+overflow_add-at c = omega (arith, c.in_ok-at.ensures.its_first_place.0, items_fit c.args.self.now.placed)
+
+pub overflow_cast-write : goal.overflow_cast-write
+overflow_cast-write c = let small = place_write c.args.self.now c.args.write c.args.after c.in_ok-at.ensures.first_test_that_fails in omega arith
+
+pub unwrap-requires : goal.unwrap-requires
+unwrap-requires c = let room = place_room c.args.self.now c.args.write c.args.after c.in_ok-at.ensures.first_test_that_fails in search rules
 
 pub invariant_of-self : goal.invariant_of-self
 invariant_of-self c =
     let fits = c.in_ok-at.ensures.first_test_that_fails in
     let room = place_room c.args.self.now c.args.write c.args.after fits in
-    record {
-      long = (c.args.self.now.long.0, c.args.self.now.long.1, omega arith);
-      few = (c.args.self.now.few.0, omega arith);
-      sound = entered_sound c.args.self.now (place c.args.write c.args.after) _ fits (place_stored c.args.self.now c.args.write c.args.after fits c.in_ok-at.at c.insert_behind-placed.result c.in_ok-at.ensures.its_first_place c.insert_behind-placed.ensures);
-    }
+    let stored : items c.insert.new.self ≡ insert (items c.args.self.now.placed) (c.in_ok-at.at + 1) c.args.write = search rules in
+    record { sound = entered_sound c.args.self.now (place c.args.write c.args.after) _ fits (placed c.args.self.now c.args.write c.args.after c.in_ok-at.at _ c.in_ok-at.ensures.its_first_place stored) }
 
-pub returns : goal.returns
-returns c =
+pub returns-clause-one_step : goal.returns-clause-one_step
+returns-clause-one_step c =
     let fits = c.in_ok-at.ensures.first_test_that_fails in
-    record {
-      denied_exactly_in_its_cases = fits;
-      one_step = sym (place_stored c.args.self.now c.args.write c.args.after fits c.in_ok-at.at c.insert_behind-placed.result c.in_ok-at.ensures.its_first_place c.insert_behind-placed.ensures) ∙ not_denied (view c.args.self.now) (place c.args.write c.args.after) fits;
-    }
+    let room = place_room c.args.self.now c.args.write c.args.after fits in
+    let stored : items c.insert.new.self ≡ insert (items c.args.self.now.placed) (c.in_ok-at.at + 1) c.args.write = search rules in
+    sym (placed c.args.self.now c.args.write c.args.after c.in_ok-at.at _ c.in_ok-at.ensures.its_first_place stored) ∙ not_denied (view c.args.self.now) (place c.args.write c.args.after) fits

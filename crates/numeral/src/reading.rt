@@ -23,7 +23,7 @@ fn trimmed(field: &[u8]) -> &[u8]
     rest
 }
 
-/// The number of a bare numeral, which has no sign and no zero in front of other digits.
+/// The number of a bare numeral, which has no sign and no zero in front of other digits: `str::parse` takes both.
 fn figures(digits: &[u8]) -> Option<u32>
     ensures { result ≡ figure digits.now }
 {

@@ -1,6 +1,6 @@
 //! Writes a number into a field.
 
-ghost use Rattle.std.specs.Prelude.{◌≡◌, ◌<◌, ◌≤◌, true, false, length, drop, replicate, is_ok, Some, decimal};
+ghost use Rattle.std.specs.Prelude.{◌≡◌, ◌<◌, ◌≤◌, true, false, length, drop, is_ok, Some, decimal};
 ghost use Rattle.numeral.specs.Numerals.{justified, numeral};
 
 /// The numeral has more digits than the field has bytes.
@@ -17,7 +17,7 @@ pub fn write(number: u32, field: &mut [u8]) -> Result<(), TooNarrow>
         return Err(TooNarrow);
     }
     let start = spell(number, field);
-    pad(&mut field[0..start]);
+    field[..start].fill(b' ');
     Ok(())
 }
 
@@ -25,13 +25,7 @@ pub fn write(number: u32, field: &mut [u8]) -> Result<(), TooNarrow>
 fn digits(number: u32) -> usize
     ensures { result ≡ length (decimal number) }
 {
-    let mut count = 1;
-    let mut rest = number;
-    while rest >= 10 {
-        rest /= 10;
-        count += 1;
-    }
-    count
+    number.max(1).ilog10() as usize + 1
 }
 
 /// Writes the numeral at the field's end, from its last digit on, and says where it begins.
@@ -40,6 +34,7 @@ fn spell(number: u32, field: &mut [u8]) -> usize
     ensures begins { result ≤ length field.old }
     ensures numeral_at_the_end { drop result field.new ≡ decimal number }
 {
+    // A `for` over the bytes from the end would have to count the digits again to know where to stop.
     let mut rest = number;
     let mut start = field.len() - 1;
     while rest >= 10 {
@@ -49,13 +44,4 @@ fn spell(number: u32, field: &mut [u8]) -> usize
     }
     field[start] = b'0' + rest as u8;
     start
-}
-
-/// Fills with spaces.
-fn pad(field: &mut [u8])
-    ensures { field.new ≡ replicate (length field.old) 32 }
-{
-    for byte in field.iter_mut() {
-        *byte = b' ';
-    }
 }

@@ -1,4 +1,4 @@
-use Rattle.std.proofs.Common.{◌≡◌, ◌-◌, ◌++◌, length, drop, refl, ap, ◌∙◌, arith}
+use Rattle.std.proofs.Common.{◌≡◌, ◌++◌, length, take, drop, replicate, refl, ap, ◌∙◌, arith, rules}
 use Rattle.numeral.proofs.Laws.{numeral_justified}
 use Rattle.numeral.proofs.Spelling.{padded}
 use Rattle.numeral.proofs.writing.write.Goals as goal
@@ -10,8 +10,9 @@ returns c =
     let start = c.spell-start.result in
     let spelled = c.spell-start.new.field in
     let long : length spelled ≡ length c.args.field.now = omega arith in
-    let stands : c.pad.new.field ++ drop (start - 0) spelled ≡ justified (length c.args.field.now) number
-    = ap (λ front. front ++ drop (start - 0) spelled) c.pad.ensures
+    let filled : c.fill.new.self ≡ replicate (length (take start spelled)) 32 = search rules in
+    let stands : c.fill.new.self ++ drop start spelled ≡ justified (length c.args.field.now) number
+    = ap (λ front. front ++ drop start spelled) filled
     ∙ padded spelled start number (omega arith) c.spell-start.ensures.numeral_at_the_end
     ∙ ap (λ w. justified w number) long in
     record {

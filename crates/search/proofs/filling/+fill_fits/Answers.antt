@@ -106,3 +106,11 @@ fits-returns-in-None g t c =
     nothing_left (g.M.Model.meaning c.args.model.now) c.args.from v (sound_of c.args.graph.now)
     c.in-None.ensures.lowest_open_write_from_there c.requires in
     (v, best.fills, c.requires)
+
+pub fill-overflow_add-write : goal.fill-overflow_add-write
+fill-overflow_add-write g t c =
+    let v = view c.args.graph.now in
+    let next = c.in-Some.ensures.lowest_open_write_from_there in
+    let among : c.in-Some.write < length v.events = write_among v c.in-Some.write (left (is_write (label_of v c.in-Some.write)) _ next.1) in
+    let few = (sound_of c.args.graph.now).few_events in
+    omega arith

@@ -30,6 +30,7 @@ impl Page<'_> {
         ensures written { Written self.old.at (lists_from 79 0 (cut orders.number events row.entry.numbers.now)) self.old.bytes.now self.new.at self.new.bytes.now }
     {
         let mut rest = row;
+        // No `chunks_exact`: it wants one event or more in a list, and a graph may have none.
         for order in 0..orders.number {
             let (list, after) = rest.split_at(events);
             self.list(b'O', Column::of(order), list);

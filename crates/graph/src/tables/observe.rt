@@ -1,6 +1,6 @@
 //! What a graph tells of itself.
 
-ghost use Rattle.std.specs.Prelude.{◌≡◌, is_some, if◌then◌else◌, Some, None, count_by};
+ghost use Rattle.std.specs.Prelude.{◌≡◌, ◌≤◌, length, is_some, if◌then◌else◌, Some, None, count_by};
 ghost use Rattle.execution.specs.Content.{label_of, is_open, NextOpen};
 ghost use Rattle.execution.specs.Entries.{stands};
 ghost use Rattle.graph.specs.View.{view};
@@ -32,6 +32,7 @@ impl Graph {
     /// The events by number.
     pub fn events(&self) -> &[Event]
         ensures all_events_in_order { result.now ≡ (view self.now).events }
+        ensures at_most_256 { length result.now ≤ 256 }
     {
         self.events.as_slice()
     }
@@ -39,6 +40,7 @@ impl Graph {
     /// For each event the write that it is linked to.
     pub fn sources(&self) -> &[Option<u8>]
         ensures all_sources_in_order { result.now ≡ (view self.now).sources }
+        ensures at_most_256 { length result.now ≤ 256 }
     {
         self.sources.as_slice()
     }
@@ -46,6 +48,7 @@ impl Graph {
     /// Every placed write. Those of one location stand in its modification order.
     pub fn placed(&self) -> &[u8]
         ensures placed_writes_in_order { result.now ≡ (view self.now).placed }
+        ensures at_most_256 { length result.now ≤ 256 }
     {
         self.placed.as_slice()
     }

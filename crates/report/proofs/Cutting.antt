@@ -2,6 +2,7 @@
 use Rattle.std.proofs.Common.{◌≡◌, ℕ, ◌*◌, List, [], ◌∷◌, ◌++◌, length, take, drop, refl, ap, ◌∙◌, ap₂, suc-mul, zero-mul, arith}
 use Rattle.std.specs.List.{AllByRecursion}
 use Rattle.std.proofs.lemmas.List.{length-append, take_at, drop_at}
+use Rattle.verdict.specs.declared.verdict.Verdict.TheVariants.{Allowed as is_allowed}
 use Rattle.verdict.specs.Answers.{joined}
 use Rattle.execution.specs.Content.{Content}
 use Rattle.report.specs.Pages.{report_line}
@@ -22,6 +23,6 @@ joined_length n (xs ∷ xss) long =
 
 -- the parts of a sheet's report
 pub sheet_parts : (g : Content) (k n w l : ℕ) (sheet front row : List ℕ) → n ≡ length g.events → w ≡ writes g → l ≡ g.locations → front ≡ take (k * n) sheet → row ≡ take w (drop (k * n) sheet)
-    → report_line 65 k n w ++ (lists_from 79 0 (cut k n front) ++ orders_from l 0 0 row) ≡ from_sheet g k sheet
+    → report_line 65 k n w ++ (lists_from 79 0 (cut k n front) ++ orders_from l 0 0 row) ≡ from_sheet g is_allowed k sheet
 unfolding from_sheet
 sheet_parts g k n w l sheet front row en ew el ef er = cc

@@ -8,7 +8,6 @@ use Rattle.event.specs.Denials.{denial_position, refusal, unless, or_else}
 use Rattle.execution.specs.Content.{Content}
 use Rattle.execution.specs.Sound.{Sound}
 use Rattle.recording.specs.Headings.{Heading}
-use Rattle.model.specs.Meaning.{Meaning, Rules}
 use Rattle.boards.specs.declared.board.Board.{Board}
 use Rattle.boards.specs.Boards.{numbered, meaning_of}
 use Rattle.boards.specs.OfBoard.{board_rules}

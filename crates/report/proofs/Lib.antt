@@ -1,4 +1,5 @@
 mod Spelled
+mod Puts
 mod Onward
 mod Lengths
 mod Cutting

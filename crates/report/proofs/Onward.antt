@@ -3,12 +3,11 @@ use Rattle.std.proofs.Common.{◌≡◌, ℕ, suc, ◌+◌, ◌<◌, ◌≤◌, 
 use borrow.Rule.Slice.PartMut.{put_mid}
 use Rattle.std.proofs.lemmas.List.{length-append, drop-drop, at_drop_more, at_drop_all}
 use Rattle.verdict.specs.Answers.{laid}
-use Rattle.judge.specs.Sheets.{put}
-use Rattle.judge.proofs.Sheets.{put_none, put_put, put_start}
 use Rattle.report.specs.Pages.{report_line}
-use Rattle.report.specs.Texts.{Written}
+use Rattle.report.specs.Texts.{put, Written}
 use Rattle.report.specs.Reports.{lines_from, lists_from}
 use Rattle.report.specs.Flat.{cut, orders_from}
+use Rattle.report.proofs.Puts.{put_none, put_put, put_start}
 
 -- writing the rest at a place of the page as it is now makes of it what writing the whole was to make
 pub record Left (from : ℕ) (whole start : List ℕ) (at : ℕ) (rest now : List ℕ) : Type 0 where

@@ -1,5 +1,5 @@
 -- From what a judge answered to what a print promises.
-use Rattle.std.proofs.Common.{◌≡◌, ℕ, zero, suc, ◌<◌, ◌≤◌, List, ◌++◌, length, take, drop, replicate, Some, None, Ok, Err, Option, sym, refl, ap, ◌∙◌, subst, arith}
+use Rattle.std.proofs.Common.{◌≡◌, ℕ, zero, suc, ◌<◌, ◌≤◌, List, ◌++◌, length, drop, replicate, Some, None, Ok, Err, Option, sym, refl, ap, ◌∙◌, subst, arith}
 use Rattle.std.specs.List.{AllByRecursion}
 use Rattle.std.proofs.lemmas.List.{take_at, length-replicate}
 use Rattle.std.proofs.ByRecursion.{All-append, All-drop}
@@ -12,13 +12,13 @@ use Rattle.verdict.specs.declared.verdict.Verdict.{Verdict}
 use Rattle.verdict.specs.declared.verdict.Verdict.TheVariants.{Allowed as is_allowed, Cycle as has_cycle, NoPlacement as has_no_placement}
 use Rattle.verdict.specs.States.{as_closed}
 use Rattle.verdict.specs.Denials.{judge_denial}
-use Rattle.verdict.specs.Answers.{Answer, allowed, cyclic, no_placement, denied, Found, RightUnless, told, written}
+use Rattle.verdict.specs.Answers.{Answer, allowed, cyclic, no_placement, denied, Found, RightUnless, joined, told, written}
 use Rattle.verdict.specs.Dealings.{judge}
 use Rattle.verdict.specs.Law.{Carries, Lawful}
 use Rattle.verdict.proofs.Fitting.{answers_fit}
 use Rattle.report.specs.Texts.{Fits, Listable, Written}
 use Rattle.report.specs.Reports.{report}
-use Rattle.report.specs.Flat.{from_sheet}
+use Rattle.report.specs.Flat.{cycle_length, from_sheet}
 use Rattle.report.specs.Printing.{answered, LawfullyPrinted}
 use Rattle.report.proofs.Onward.{written_start}
 use Rattle.report.proofs.Reporting.{sheet_reported, found_fits, judge_of, denied_too, denied_by_page, not_denied}
@@ -47,36 +47,32 @@ answered_ok g (cyclic k xs) v e = refl
 answered_ok g no_placement v e = refl
 answered_ok g (denied d) v e = cc
 
--- the report of what a verdict is told of
-allowed_text : (m : Meaning) (g : Content) (a : Answer) (rest : List ℕ) → Found m g a → Ok is_allowed ≡ told a → from_sheet g m.orders (written a ++ rest) ≡ report g a
-allowed_text m g (allowed lists orders) rest f e = sheet_reported m g f.0 lists orders rest f.1
-allowed_text m g (cyclic k xs) rest f e = cc
-allowed_text m g no_placement rest f e = cc
-allowed_text m g (denied d) rest f e = cc
+-- a verdict is reported as what it is told of
+verdict_text : (m : Meaning) (g : Content) (a : Answer) (v : Verdict) (rest : List ℕ) → Found m g a → Ok v ≡ told a → from_sheet g v m.orders (written a ++ rest) ≡ report g a
+unfolding from_sheet
+verdict_text m g (allowed lists orders) v rest f e =
+    let is : v ≡ is_allowed = cc in
+    ap (λ (x : Verdict). from_sheet g x m.orders ((joined lists ++ joined orders) ++ rest)) is ∙ sheet_reported m g f.0 lists orders rest f.1
+verdict_text m g (cyclic k xs) v rest f e =
+    let is : v ≡ has_cycle k (length xs) = cc in
+    ap (λ (x : Verdict). from_sheet g x m.orders (xs ++ rest)) is ∙ ap (λ (ys : List ℕ). report g (cyclic k ys)) (take_at xs rest (length xs) refl)
+verdict_text m g no_placement v rest f e =
+    let is : v ≡ has_no_placement = cc in
+    ap (λ (x : Verdict). from_sheet g x m.orders rest) is
+verdict_text m g (denied d) v rest f e = absurd f
 
-cycle_text : (g : Content) (a : Answer) (k n : ℕ) (rest : List ℕ) → Ok (has_cycle k n) ≡ told a → report g (cyclic k (take n (written a ++ rest))) ≡ report g a
-cycle_text g (allowed lists orders) k n rest e = cc
-cycle_text g (cyclic j xs) k n rest e =
-    let same : j ≡ k = cc in
-    let long : length xs ≡ n = cc in
-    ap (λ (ys : List ℕ). report g (cyclic k ys)) (take_at xs rest n long) ∙ ap (λ (i : ℕ). report g (cyclic i xs)) (sym same)
-cycle_text g no_placement k n rest e = cc
-cycle_text g (denied d) k n rest e = cc
-
-no_placement_text : (g : Content) (a : Answer) → Ok has_no_placement ≡ told a → report g no_placement ≡ report g a
-no_placement_text g (allowed lists orders) e = cc
-no_placement_text g (cyclic k xs) e = cc
-no_placement_text g no_placement e = refl
-no_placement_text g (denied d) e = cc
-
-cycle_order : (m : Meaning) (g : Content) (a : Answer) (k n : ℕ) → Found m g a → Ok (has_cycle k n) ≡ told a → (k < m.orders) × (n ≡ length (written a))
-cycle_order m g (allowed lists orders) k n f e = let z : ◌≡◌ {A = ℕ} 0 1 = cc in absurd (omega arith)
-cycle_order m g (cyclic j xs) k n f e =
-    let same : j ≡ k = cc in
-    let long : n ≡ length xs = cc in
-    (subst (λ (i : ℕ). i < m.orders) same f.0, long)
-cycle_order m g no_placement k n f e = let z : ◌≡◌ {A = ℕ} 0 1 = cc in absurd (omega arith)
-cycle_order m g (denied d) k n f e = absurd f
+-- a cycle is all that is written
+cycle_written : (a : Answer) (v : Verdict) → Ok v ≡ told a → cycle_length v ≤ length (written a)
+cycle_written (allowed lists orders) v e =
+    let is : v ≡ is_allowed = cc in
+    omega (arith, ap cycle_length is)
+cycle_written (cyclic k xs) v e =
+    let is : v ≡ has_cycle k (length xs) = cc in
+    omega (arith, ap cycle_length is)
+cycle_written no_placement v e =
+    let is : v ≡ has_no_placement = cc in
+    omega (arith, ap cycle_length is)
+cycle_written (denied d) v e = cc
 
 pub zeros_long : length (replicate {A = ℕ} 1280 0) ≡ 1280
 zeros_long = length-replicate {A = ℕ} 1280 0
@@ -121,30 +117,18 @@ module _ (m : Meaning) (g : Content) (before zeros sheet : List ℕ) (long : len
     sheet_is : sheet ≡ written l.judged.answer ++ drop (length (written l.judged.answer)) zeros
     sheet_is = l.judged.sheet
 
-    pub printed_allowed : v ≡ is_allowed → 17934 ≤ length before → (k end : ℕ) (after : List ℕ) → k ≡ m.orders → Written 0 (from_sheet g k sheet) before end after → LawfullyPrinted m g before (Ok end) after
-    printed_allowed is room k end after all w =
+    pub printed_verdict : 17934 ≤ length before → (k end : ℕ) (after : List ℕ) → k ≡ m.orders → Written 0 (from_sheet g v k sheet) before end after → LawfullyPrinted m g before (Ok end) after
+    printed_verdict room k end after all w =
         let a = l.judged.answer in
-        let text = ap (λ (n : ℕ). from_sheet g n sheet) all ∙ ap (from_sheet g m.orders) sheet_is ∙ allowed_text m g a (drop (length (written a)) zeros) found.1 (ap (λ (x : Verdict). Ok x) (sym is) ∙ l.judged.returned) in
+        let text = ap (λ (n : ℕ). from_sheet g v n sheet) all ∙ ap (from_sheet g v m.orders) sheet_is ∙ verdict_text m g a v (drop (length (written a)) zeros) found.1 l.judged.returned in
         printed_report room end after (subst (λ (xs : List ℕ). Written 0 xs before end after) text w)
 
-    pub printed_cycle : (k n : ℕ) → v ≡ has_cycle k n → 17934 ≤ length before → (end : ℕ) (after : List ℕ) → Written 0 (report g (cyclic k (take n sheet))) before end after → LawfullyPrinted m g before (Ok end) after
-    printed_cycle k n is room end after w =
+    -- a cycle fits the sheet
+    pub cycle_fits : Rules m → Sound g → cycle_length v ≤ 1280
+    cycle_fits rules sound =
         let a = l.judged.answer in
-        let text = ap (λ (xs : List ℕ). report g (cyclic k (take n xs))) sheet_is ∙ cycle_text g a k n (drop (length (written a)) zeros) (ap (λ (x : Verdict). Ok x) (sym is) ∙ l.judged.returned) in
-        printed_report room end after (subst (λ (xs : List ℕ). Written 0 xs before end after) text w)
-
-    pub printed_no_placement : v ≡ has_no_placement → 17934 ≤ length before → (end : ℕ) (after : List ℕ) → Written 0 (report g no_placement) before end after → LawfullyPrinted m g before (Ok end) after
-    printed_no_placement is room end after w =
-        let text = no_placement_text g l.judged.answer (ap (λ (x : Verdict). Ok x) (sym is) ∙ l.judged.returned) in
-        printed_report room end after (subst (λ (xs : List ℕ). Written 0 xs before end after) text w)
-
-    -- the order of a cycle is one of the model's, and the cycle fits the sheet
-    pub cycle_fits : (k n : ℕ) → v ≡ has_cycle k n → Rules m → Sound g → (k < m.orders) × (n ≤ 1280)
-    cycle_fits k n is rules sound =
-        let a = l.judged.answer in
-        let order = cycle_order m g a k n found.1 (ap (λ (x : Verdict). Ok x) (sym is) ∙ l.judged.returned) in
         let fits = answers_fit m rules (as_closed g) sound (length zeros) a l.judged.right in
-        (order.0, omega (arith, order.1))
+        omega (arith, cycle_written a v l.judged.returned)
 
     -- the numbers on the sheet are of few columns
     pub sheet_listable : Rules m → Sound g → AllByRecursion Fits zeros → length sheet ≡ 1280 → Listable sheet

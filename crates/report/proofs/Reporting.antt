@@ -10,6 +10,7 @@ use Rattle.execution.specs.Content.{Content, is_open}
 use Rattle.event.specs.Denials.{unless, or_else}
 use Rattle.execution.specs.Sound.{Sound}
 use Rattle.model.specs.Meaning.{Meaning, Rules}
+use Rattle.verdict.specs.declared.verdict.Verdict.TheVariants.{Allowed as is_allowed}
 use Rattle.verdict.specs.Shown.{modification_orders, Shown}
 use Rattle.verdict.specs.States.{as_closed}
 use Rattle.verdict.specs.Denials.{unread, too_wide, judge_denial}
@@ -30,7 +31,7 @@ use Rattle.report.proofs.Small.{Small, fits_all, small_listable, all_joined, lis
 
 -- the lists and orders that stand on a sheet are reported as they are
 pub sheet_reported : (m : Meaning) (g h : Content) (lists orders : List (List ℕ)) (rest : List ℕ) → Shown m g h lists orders
-    → from_sheet g m.orders ((joined lists ++ joined orders) ++ rest) ≡ report g (allowed lists orders)
+    → from_sheet g is_allowed m.orders ((joined lists ++ joined orders) ++ rest) ≡ report g (allowed lists orders)
 unfolding from_sheet report
 sheet_reported m g h lists orders rest shown =
     let done = shown.placed.completes in
@@ -48,10 +49,10 @@ sheet_reported m g h lists orders rest shown =
     let told : orders_from g.locations 0 0 (joined orders) ≡ lists_from 77 0 orders =
     subst (λ (xss : List (List ℕ)). orders_from g.locations 0 0 (joined xss) ≡ lists_from 77 0 xss) (sym shown.ordered)
     (subst (λ (k : ℕ). orders_from k 0 0 (joined (modification_orders h)) ≡ lists_from 77 0 (modification_orders h)) done.locations (orders_told h done.sound 0 0)) in
-    let by-lists : from_sheet g (length lists) sheet ≡ report g (allowed lists orders) =
+    let by-lists : from_sheet g is_allowed (length lists) sheet ≡ report g (allowed lists orders) =
     ap₂ (λ (xss : List (List ℕ)) (ys : List ℕ). report_line 65 (length lists) n (writes g) ++ (lists_from 79 0 xss ++ orders_from g.locations 0 0 ys)) apart row
     ∙ ap (λ (zs : List ℕ). report_line 65 (length lists) n (writes g) ++ (lists_from 79 0 lists ++ zs)) told in
-    subst (λ (k : ℕ). from_sheet g k sheet ≡ report g (allowed lists orders)) shown.as_many by-lists
+    subst (λ (k : ℕ). from_sheet g is_allowed k sheet ≡ report g (allowed lists orders)) shown.as_many by-lists
 
 -- what an answer shows are numbers of few columns
 pub found_fits : (m : Meaning) → Rules m → (g : Content) → Sound g → (a : Answer) → Found m g a → AllByRecursion Fits (written a)

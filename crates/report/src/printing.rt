@@ -3,15 +3,13 @@
 ghost use Rattle.graph.specs.View.{of_closed};
 ghost use Rattle.report.specs.Printing.{LawfullyPrinted, OneReport, ReportsFit};
 
-use crate::column::Column;
 use crate::denied::PAGE;
-use crate::page::Page;
 use crate::row::Row;
+use crate::verdicts::report;
 use event::Denial;
 use graph::Closed;
 use judge::Judge;
 use model::Model;
-use verdict::Verdict;
 
 /// Uses up a closed graph: judges it, writes the report at the page's start and answers the report's length.
 pub fn print<M: Model>(graph: Closed, model: &M, page: &mut [u8]) -> Result<usize, Denial>
@@ -24,23 +22,6 @@ pub fn print<M: Model>(graph: Closed, model: &M, page: &mut [u8]) -> Result<usiz
     if page.len() < PAGE {
         return Err(Denial::Page);
     }
-    let mut page = Page { bytes: page, at: 0 };
-    match verdict {
-        Verdict::Allowed => {
-            let sheet = Row { numbers: &sheet };
-            page.allowed(graph.graph(), model.orders(), sheet);
-            Ok(page.at)
-        }
-        Verdict::Cycle { order, length } => {
-            let cycle = Row {
-                numbers: &sheet[0..length as usize],
-            };
-            page.cycle(graph.graph(), Column::of(usize::from(order)), cycle);
-            Ok(page.at)
-        }
-        Verdict::NoPlacement => {
-            page.no_placement(graph.graph());
-            Ok(page.at)
-        }
-    }
+    let sheet = Row { numbers: &sheet };
+    Ok(report(graph.graph(), verdict, model.orders(), sheet, page))
 }

@@ -1,4 +1,4 @@
-use Rattle.std.proofs.Common.{◌≡◌, List, sym, ap, ◌∙◌, rules}
+use Rattle.std.proofs.Common.{◌≡◌, sym, ap, ◌∙◌, rules}
 use Rattle.std.specs.List.{count_by}
 use Rattle.event.specs.declared.event.Event.{Event}
 use Rattle.event.specs.Labels.{is_write}

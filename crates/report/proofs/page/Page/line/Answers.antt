@@ -1,4 +1,4 @@
-use Rattle.std.proofs.Common.{length, ◌∙◌, arith}
+use Rattle.std.proofs.Common.{◌∙◌, arith}
 use Rattle.report.specs.Pages.{report_line}
 use Rattle.report.proofs.Spelled.{columns_length}
 use Rattle.report.proofs.Onward.{put_over}

@@ -10,12 +10,10 @@ use graph::Graph;
 pub fn lowest_unlinked_read(graph: &Graph) -> Option<u8>
     ensures the_lowest_read_without_a_source { result ≡ lowest (length (view graph.now).events) (unlinked (view graph.now)) }
 {
-    let events = graph.events();
-    let sources = graph.sources();
-    for read in 0..events.len() {
-        if events[read].label.reads() && sources[read].is_none() {
-            return Some(read as u8);
-        }
-    }
-    None
+    graph
+        .events()
+        .iter()
+        .zip(graph.sources())
+        .position(|(event, source)| event.label.reads() && source.is_none())
+        .map(|read| read as u8)
 }

@@ -1,39 +1,23 @@
 //! Under three orders: coherence, program order with reads-from, and program order with modification order.
-use event::{Arguments, Kind, Size};
+//! The numbers of an event are its thread, location, value read, value written and mode.
+use event::{Kind, Size};
 use graph::Open;
 use search::{lowest_cyclic, search};
 use std::test::Fail;
 use threefold::Threefold;
 
-fn access(thread: u32, location: u32, read: u32, written: u32) -> Arguments {
-    Arguments {
-        thread,
-        location,
-        read,
-        written,
-        mode: 1,
-    }
-}
-
 /// Whether the search finds a graph with the writes placed in that order.
 fn finds(open: &Open, placed: &[u8]) -> bool {
-    match search(open.graph(), &Threefold {}) {
-        Some(full) => same(full.placed(), placed),
-        None => false,
-    }
-}
-
-fn same(some: &[u8], others: &[u8]) -> bool {
-    some.len() == others.len() && some.iter().eq(others.iter())
+    search(open.graph(), &Threefold {}).is_some_and(|full| full.placed() == placed)
 }
 
 /// Two writes of x, one in each of two threads; a third thread reads the second and then the first.
 fn two_writes() -> Result<Open, Fail> {
     let mut open = Open::new(Size::new(3, 1)?);
-    open.record(Kind::Write, access(1, 0, 0, 1))?;
-    open.record(Kind::Write, access(2, 0, 0, 2))?;
-    open.record(Kind::Read, access(3, 0, 2, 0))?;
-    open.record(Kind::Read, access(3, 0, 1, 0))?;
+    open.record(Kind::Write, [1, 0, 0, 1, 1].into())?;
+    open.record(Kind::Write, [2, 0, 0, 2, 1].into())?;
+    open.record(Kind::Read, [3, 0, 2, 0, 1].into())?;
+    open.record(Kind::Read, [3, 0, 1, 0, 1].into())?;
     open.link(3, 2)?;
     open.link(4, 1)?;
     Ok(open)
@@ -43,7 +27,7 @@ fn two_writes() -> Result<Open, Fail> {
 fn the_read_order_tells_the_modification_order(rt: HostRuntime) -> Result<(), Fail> {
     let mut open = two_writes()?;
     assert!(rt; finds(&open, &[0, 2, 1]));
-    open.record(Kind::Read, access(3, 0, 2, 0))?;
+    open.record(Kind::Read, [3, 0, 2, 0, 1].into())?;
     open.link(5, 2)?;
     assert!(rt; lowest_cyclic(open.graph(), &Threefold {}).is_none());
     assert!(rt;
@@ -56,8 +40,8 @@ fn the_read_order_tells_the_modification_order(rt: HostRuntime) -> Result<(), Fa
 #[test]
 fn two_updates_of_one_source_have_no_place(rt: HostRuntime) -> Result<(), Fail> {
     let mut open = Open::new(Size::new(2, 1)?);
-    open.record(Kind::Update, access(1, 0, 0, 1))?;
-    open.record(Kind::Update, access(2, 0, 0, 1))?;
+    open.record(Kind::Update, [1, 0, 0, 1, 1].into())?;
+    open.record(Kind::Update, [2, 0, 0, 1, 1].into())?;
     open.link(1, 0)?;
     assert!(rt; finds(&open, &[0, 1, 2]), "the second is not linked yet");
     open.link(2, 0)?;
@@ -68,10 +52,10 @@ fn two_updates_of_one_source_have_no_place(rt: HostRuntime) -> Result<(), Fail> 
 /// Thread 1 writes x and then y, thread 2 writes y and then x: events 2, 3, 4 and 5.
 fn crossed() -> Result<Open, Fail> {
     let mut open = Open::new(Size::new(2, 2)?);
-    open.record(Kind::Write, access(1, 0, 0, 1))?;
-    open.record(Kind::Write, access(1, 1, 0, 1))?;
-    open.record(Kind::Write, access(2, 1, 0, 2))?;
-    open.record(Kind::Write, access(2, 0, 0, 2))?;
+    open.record(Kind::Write, [1, 0, 0, 1, 1].into())?;
+    open.record(Kind::Write, [1, 1, 0, 1, 1].into())?;
+    open.record(Kind::Write, [2, 1, 0, 2, 1].into())?;
+    open.record(Kind::Write, [2, 0, 0, 2, 1].into())?;
     open.place(3, 1)?;
     open.place(4, 3)?;
     Ok(open)
@@ -108,13 +92,13 @@ fn the_lowest_cyclic_order_and_the_first_place(rt: HostRuntime) -> Result<(), Fa
 #[test]
 fn writes_of_one_thread_stand_in_its_order(rt: HostRuntime) -> Result<(), Fail> {
     let mut open = Open::new(Size::new(1, 1)?);
-    open.record(Kind::Write, access(1, 0, 0, 1))?;
-    open.record(Kind::Write, access(1, 0, 0, 2))?;
-    open.record(Kind::Write, access(1, 0, 0, 3))?;
+    open.record(Kind::Write, [1, 0, 0, 1, 1].into())?;
+    open.record(Kind::Write, [1, 0, 0, 2, 1].into())?;
+    open.record(Kind::Write, [1, 0, 0, 3, 1].into())?;
     assert!(rt; finds(&open, &[0, 1, 2, 3]));
     open.place(3, 0)?;
     assert!(rt; finds(&open, &[0, 1, 2, 3]), "the last alone placed");
-    open.record(Kind::Read, access(1, 0, 1, 0))?;
+    open.record(Kind::Read, [1, 0, 1, 0, 1].into())?;
     open.link(4, 1)?;
     assert_eq!(rt; lowest_cyclic(open.graph(), &Threefold {}), None);
     assert!(rt;

@@ -1,15 +1,20 @@
 -- What is asked of an order's table is asked of the order, and what is shown is added part by part.
-use Rattle.std.proofs.Common.{◌≡◌, ℕ, ◌+◌, ◌<◌, ◌≤◌, Bool, ltb, min, List, ◌++◌, length, MatchOption, Some, None, Option, Ok, Err, Result, sym, subst, arith}
+use Rattle.std.proofs.Common.{◌≡◌, ℕ, ◌+◌, ◌<◌, ◌≤◌, Bool, ltb, min, List, ◌++◌, length, IfSome, MatchOption, Some, None, Option, Ok, Err, Result, sym, subst, arith}
 use Rattle.std.specs.Result.{result_ok}
+use Rattle.execution.specs.Content.{Content}
 use Rattle.execution.proofs.Tests.{right}
 use Rattle.relation.specs.declared.table.Relation.{Relation}
+use Rattle.relation.specs.Sequences.{events}
 use Rattle.relation.specs.Table.{holds, Is}
 use Rattle.relation.proofs.Same.{is_same}
-use Rattle.cycles.specs.Cycles.{Cycle, Acyclic, Cyclic}
+use Rattle.cycles.specs.Cycles.{Cycle, Acyclic, Cyclic, FirstCycle}
 use Rattle.cycles.specs.Listings.{among, Listing}
 use Rattle.cycles.proofs.Walks.{larger_keeps_cycles}
 use Rattle.sequence.specs.declared.sequence.Full.{Full}
+use Rattle.sequence.specs.declared.sequence.Sequence.{Sequence}
+use Rattle.model.specs.Meaning.{Meaning}
 use Rattle.judge.specs.Sheets.{Added}
+use Rattle.judge.specs.Judges.{FirstFound}
 
 -- a cycle among the first events is one
 pub not_among : (r : ℕ → ℕ → Bool) (t : Relation) → Is t r → (n : ℕ) → Cyclic (among n (holds t)) → Acyclic r → ⊥
@@ -44,3 +49,17 @@ module _ (xs before after : List ℕ) (r : Result (Unit {0}) Full) where
 
   pub no_room : (f : Full) → r ≡ Err f → 1280 < length before + length xs → Added xs before r after
   no_room f e room = subst (λ (x : Result (Unit {0}) Full). Added xs before x after) (sym e) room
+
+-- the first cycle of an order's table is the order's
+pub cycle_by_table : (r : ℕ → ℕ → Bool) (t : Relation) → Is t r → (o : Option (Sequence ℕ 256)) → MatchOption o (Acyclic (holds t)) (λ _. Cyclic (holds t)) → IfSome o (λ s. FirstCycle (holds t) (events s))
+    → MatchOption o (Acyclic r) (λ s. FirstCycle r (events s))
+cycle_by_table r t is None none first = subst (λ (q : ℕ → ℕ → Bool). Acyclic q) (is_same t r is) none
+cycle_by_table r t is (Some s) some first = subst (λ (q : ℕ → ℕ → Bool). FirstCycle q (events s)) (is_same t r is) first
+
+-- what is found order by order
+pub first_found : (m : Meaning) (g : Content) (n : ℕ) → n ≡ m.orders → (o : Option (ℕ × Sequence ℕ 256))
+    → MatchOption o ((k : ℕ) → 0 ≤ k → k < n → Acyclic (m.pairs g k)) (λ f. (i : ℕ) × (0 ≤ i) × (i < n) × ((f.0 ≡ i) × FirstCycle (m.pairs g i) (events f.1)) × ((k : ℕ) → 0 ≤ k → k < i → Acyclic (m.pairs g k)))
+    → FirstFound m g o
+first_found m g n e None none = λ k l. none k (omega arith) (omega arith)
+first_found m g n e (Some (k, cycle)) (i, _, below, (same, first), lower) =
+    (omega arith, subst (λ (x : ℕ). FirstCycle (m.pairs g x) (events cycle)) (sym same) first, λ j l. lower j (omega arith) (omega arith))

@@ -2,6 +2,8 @@
 ghost use Rattle.std.specs.Prelude.{MatchOption};
 ghost use Rattle.graph.specs.View.{view};
 ghost use Rattle.sequence.specs.Sequences.{items};
+ghost use Rattle.relation.specs.Sequences.{events};
+ghost use Rattle.cycles.specs.Cycles.{Acyclic, FirstCycle};
 ghost use Rattle.model.specs.Meaning.{Serves};
 ghost use Rattle.verdict.specs.Completions.{Allowed};
 ghost use Rattle.judge.specs.Judges.{AllowedShown, FirstFound, ListsShown, OrderShown};
@@ -23,12 +25,14 @@ impl<M: Model> Under<'_, M> {
     pub(crate) fn first_cycle(&self) -> Option<(usize, relation::Sequence)>
         ensures { FirstFound (M.Model.meaning self.now.model.now) (view self.now.graph.now) result }
     {
-        for order in 0..self.model.orders() {
-            if let Some(cycle) = table_of(self.graph, self.model, order).first_cycle() {
-                return Some((order, cycle));
-            }
-        }
-        None
+        (0..self.model.orders()).find_map(|order| Some((order, self.cycle(order)?)))
+    }
+
+    /// The first cycle of an order.
+    fn cycle(&self, order: usize) -> Option<relation::Sequence>
+        ensures { MatchOption result (Acyclic ((M.Model.meaning self.now.model.now).pairs (view self.now.graph.now) order)) (λ c. FirstCycle ((M.Model.meaning self.now.model.now).pairs (view self.now.graph.now) order) (events c)) }
+    {
+        table_of(self.graph, self.model, order).first_cycle()
     }
 
     /// What an allowed graph is shown with, of its first full modification order; none where the graph is not allowed.

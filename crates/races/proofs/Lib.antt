@@ -1,2 +1,1 @@
-mod Ranges
 mod Racing

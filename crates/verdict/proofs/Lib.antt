@@ -3,6 +3,7 @@ pub mod Growing
 pub mod Reading
 pub mod Runs
 pub mod Counting
+pub mod Ranges
 pub mod Agreeing
 pub mod Unique
 pub mod Fitting

@@ -2,7 +2,7 @@ use Rattle.std.proofs.Common.{◌≡◌, None, Some, length, ap, rules}
 use Rattle.graph.specs.View.{view}
 use Rattle.relation.specs.Table.{holds}
 use Rattle.races.specs.Partners.{LowestPartner}
-use Rattle.races.proofs.Ranges.{first_given}
+use Rattle.verdict.proofs.Ranges.{first_given}
 use Rattle.races.proofs.Racing.{first_race}
 use Rattle.races.proofs.race.Ordered.first_race.Goals as goal
 

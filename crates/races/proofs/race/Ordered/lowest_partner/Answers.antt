@@ -2,7 +2,7 @@ use Rattle.std.proofs.Common.{◌≡◌, T, length, ap, rules, arith, tests}
 use Rattle.graph.specs.View.{view}
 use Rattle.relation.specs.Table.{holds}
 use Rattle.races.specs.Races.{races}
-use Rattle.races.proofs.Ranges.{first_given}
+use Rattle.verdict.proofs.Ranges.{first_given}
 use Rattle.races.proofs.Racing.{lowest_partner}
 use Rattle.races.proofs.race.Ordered.lowest_partner.Goals as goal
 

@@ -45,7 +45,7 @@ fn is_too_wide(graph: &Graph) -> bool
     open_writes(graph) > 8 || has_wide_location(graph)
 }
 
-/// How many writes are open.
+/// How many writes are open. Events are numbered past a byte here, since their count may be 256.
 fn open_writes(graph: &Graph) -> usize
     ensures { result ≡ count (length (view graph.now).events) (is_open (view graph.now)) }
 {

@@ -2,9 +2,8 @@
 ghost use Rattle.std.specs.Prelude.{◌≡◌, ◌≤◌, length};
 ghost use Rattle.graph.specs.View.{view};
 ghost use Rattle.sequence.specs.Sequences.{items};
-ghost use Rattle.verdict.specs.Answers.{laid};
 ghost use Rattle.verdict.specs.Shown.{modification_order, modification_orders};
-ghost use Rattle.verdict.specs.Answers.{joined};
+ghost use Rattle.verdict.specs.Answers.{joined, laid};
 ghost use Rattle.judge.specs.Sheets.{Added, at_location};
 
 use graph::Graph;
@@ -37,7 +36,7 @@ pub(crate) fn add(events: &[u8], shown: &mut Shown) -> Result<(), Full>
     Ok(())
 }
 
-/// Adds each location's modification order, location by location.
+/// Adds each location's modification order, location by location. Locations are numbers, and no list has them.
 pub(crate) fn add_modification_orders(graph: &Graph, shown: &mut Shown) -> Result<(), Full>
     ensures { Added (joined (modification_orders (view graph.now))) (items shown.old) result (items shown.new) }
 {

@@ -1,5 +1,5 @@
 //! Open writes placed one after the other, from the lowest number and the first place on.
-//! The graph changes with every call and the model does not, so the two are no pair with methods here.
+//! Every call has another graph under the same model, so a struct of the two would be built anew at each call.
 ghost use Rattle.std.specs.Prelude.{MatchBool};
 ghost use Rattle.graph.specs.View.{view};
 ghost use Rattle.verdict.specs.Fillings.{Fillable};
@@ -36,7 +36,7 @@ fn fill<M: Model>(graph: &Graph, model: &M, from: u32) -> Option<Graph>
             if let Some(full) = fill(&tried, model, from) {
                 return Some(full);
             }
-            // Where the higher ones do not fit with this one left out, no other place of it helps.
+            // Asked once: where the higher ones do not fit with this one left out, no other place of it helps.
             if !others_fit && !fits(graph, model, write + 1) {
                 return None;
             }

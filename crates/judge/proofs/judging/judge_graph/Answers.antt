@@ -1,4 +1,4 @@
-use Rattle.std.proofs.Common.{ℕ, ◌≤◌, List, length, Ok, Err, Result, sym, ap, ◌∙◌, subst, subst₂, arith, rules}
+use Rattle.std.proofs.Common.{ℕ, List, Ok, Err, Result, sym, ap, ◌∙◌, subst, subst₂}
 use Rattle.std.proofs.lemmas.Result.{err_from_is_err_and}
 use Rattle.event.specs.declared.denial.Denial.{Denial}
 use Rattle.graph.specs.View.{view}
@@ -21,16 +21,6 @@ returns-in_err-check_judge g c =
     let e = err_from_is_err_and c.from_residual.result c.from_residual.ensures.1 in
     subst (λ (r : Result Verdict Denial). Judged m s before r before) (sym (e.1 ∙ ap (λ (d : Denial). Err d) e.2))
     (judged_denied m s before _ (sym c.in_err-check_judge.ensures.first_test_that_fails))
-
-pub write-requires : goal.write-requires
-write-requires g c =
-    let room : 1280 ≤ length c.args.sheet.now = search rules in
-    omega (arith, room, c.as_slice.ensures.no_more_than_fit)
-
-pub overflow_cast-result-in-Some : goal.overflow_cast-result-in-Some
-overflow_cast-result-in-Some g c =
-    let small : c.len.result ≤ 256 = omega (arith, c.len.ensures.counts_the_items, c.as_slice.ensures.no_more_than_fit, ap length c.as_slice.ensures.is_the_items_in_order) in
-    search rules
 
 pub returns-in-Some : goal.returns-in-Some
 returns-in-Some g c =

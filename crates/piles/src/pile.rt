@@ -28,6 +28,7 @@ impl MemoryModel for Pile {
     }
 
     fn lay(&self, graph: &Graph, order: usize, table: &mut Relation) {
+        // One call a branch: the two piles differ in their type, and no heap holds either as one.
         if self.barrier {
             Strong::new(Barrier::new(self.board), self.strong).lay(graph, order, table);
         } else {

@@ -44,6 +44,7 @@ fn tell(rt: &HostRuntime, recorded: &[u8]) -> anyhow::Result<()> {
 }
 
 /// The verdict, and what the sheet then holds at its start.
+// Not by Display, which would tell a cycle's length: the numbers shown tell it.
 fn judge(rt: &HostRuntime, recording: &Recording) -> anyhow::Result<()> {
     let mut sheet = [999u16; 1280];
     match report::judge_recording(recording, &mut sheet) {

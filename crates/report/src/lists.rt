@@ -30,7 +30,7 @@ impl Page<'_> {
         ensures written { Written self.old.at (lists_from 79 0 (cut orders.number events row.entry.numbers.now)) self.old.bytes.now self.new.at self.new.bytes.now }
     {
         let mut rest = row;
-        // No `chunks_exact`: it wants one event or more in a list, and a graph may have none.
+        // No `chunks_exact`: it hands out plain slices, and a list is to be a `Row` again, as `split_at` gives it.
         for order in 0..orders.number {
             let (list, after) = rest.split_at(events);
             self.list(b'O', Column::of(order), list);
@@ -46,6 +46,7 @@ impl Page<'_> {
         ensures written { Written self.old.at (orders_from locations 0 0 writes.entry.numbers.now) self.old.bytes.now self.new.at self.new.bytes.now }
     {
         let mut location = Column::of(0);
+        // No `enumerate`: the position starts again with each location.
         let mut position = 0;
         for write in writes.numbers {
             let event = Column::of(usize::from(*write));

@@ -8,6 +8,7 @@ use crate::column::Column;
 use crate::line::report_line;
 
 /// A page that takes every report, and how far it is written.
+// Each method asks for the room that its own lines take: how many are still to come is known to the caller alone.
 #[derive(Drop)]
 pub(crate) struct Page<'a> {
     pub(crate) bytes: &'a mut [u8],

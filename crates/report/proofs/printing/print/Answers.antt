@@ -9,7 +9,7 @@ use Rattle.std.proofs.ByRecursion.{All-get_or}
 use Rattle.report.specs.Flat.{from_sheet}
 use Rattle.report.specs.Printing.{LawfullyPrinted}
 use Rattle.report.proofs.Reporting.{one_report, reports_fit}
-use Rattle.report.proofs.Promised.{zeros_long, zeros_fit, printed_denied, printed_short, printed_verdict, cycle_fits, sheet_listable}
+use Rattle.report.proofs.Promised.{zeros_long, zeros_fit, printed_denied, printed_short, printed_verdict, sheet_listable}
 use Rattle.report.proofs.printing.print.Goals as goal
 use Rattle.report.proofs.printing.print.Goals.{In_ok-verdict}
 use Rattle.report.proofs.printing.print.Given.{Over}
@@ -51,12 +51,6 @@ pub invariant_of-sheet : goal.invariant_of-sheet
 invariant_of-sheet g c =
     let sheet = shown g (goal.at.invariant_of-sheet g c).In_ok-verdict in
     record { few = sheet.few; fits = λ i l. All-get_or Fits c.judge.new.sheet i 0 l sheet.each }
-
-pub report-requires-clause-cycle_fits : goal.report-requires-clause-cycle_fits
-report-requires-clause-cycle_fits g c =
-    let x = c.args.model.now in
-    cycle_fits (g.M.Model.meaning x) (of_closed c.args.graph) c.args.page.now (replicate 1280 0) c.judge.new.sheet zeros_long c.in_ok-verdict.verdict
-    c.in_ok-verdict.ensures.judged_rightly_and_the_law_holds_of_every_run_that_makes_this_graph (g.met.M.Model.rules x) (sound_of c.args.graph.graph)
 
 pub returns : goal.returns
 returns g c =

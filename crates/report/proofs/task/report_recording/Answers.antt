@@ -1,4 +1,4 @@
-use Rattle.std.proofs.Common.{◌≡◌, ℕ, ◌<◌, ◌≤◌, Bool, true, false, cond, eqb, List, length, Some, Ok, Err, sym, refl, ap, ◌∙◌, subst}
+use Rattle.std.proofs.Common.{◌≡◌, ℕ, ◌<◌, ◌≤◌, Bool, true, false, cond, eqb, List, length, Some, Err, sym, refl, ap, ◌∙◌, subst}
 use Rattle.graph.specs.View.{of_closed}
 use Rattle.recording.specs.Headings.{heading_of, model_number}
 use Rattle.boards.specs.declared.board.Board.{Board}
@@ -8,7 +8,7 @@ use Rattle.verdict.specs.Answers.{laid}
 use Rattle.piles.specs.Piles.{piled}
 use Rattle.report.specs.Printing.{LawfullyPrinted}
 use Rattle.report.specs.Files.{denial_text, ToldOf, pile_of}
-use Rattle.report.proofs.Filed.{printed_long, printed_never_short, page_kept, denial_told}
+use Rattle.report.proofs.Filed.{page_kept, denial_told}
 use Rattle.report.proofs.task.report_recording.Goals as goal
 
 -- the number on the H line that asks for the barrier layer
@@ -23,20 +23,6 @@ numbered_again C11 = refl
 numbered_again Ra = refl
 numbered_again Tso = refl
 numbered_again Sc = refl
-
-pub returns-in-Ok : goal.returns-in-Ok
-returns-in-Ok c =
-    let header = c.args.recording.header in
-    let g = of_closed c.args.recording.graph in
-    let before = c.args.page.now in
-    let after = c.print_recording.new.page in
-    let chosen = numbered_again header.model in
-    let printed : LawfullyPrinted (pile_of (heading_of header) header.model) g before (Ok c.in-Ok.length) after =
-    subst (λ (b : Bool). LawfullyPrinted (piled header.strong b (meaning_of header.model)) g before (Ok c.in-Ok.length) after) (asked header.barrier) c.in-Ok.ensures in
-    record {
-      short = printed_never_short (heading_of header) g header.model chosen before c.in-Ok.length after printed;
-      long = printed_long (heading_of header) g header.model chosen before c.in-Ok.length after printed;
-    }
 
 pub returns-in-Err : goal.returns-in-Err
 returns-in-Err c =

@@ -1,8 +1,8 @@
-use Rattle.std.proofs.Common.{◌≡◌, ℕ, suc, ◌+◌, ◌-◌, ◌*◌, ◌<◌, ◌≤◌, ◌++◌, length, sym, refl, ap, ◌∙◌, subst, suc-mul, arith}
+use Rattle.std.proofs.Common.{◌≡◌, ℕ, suc, ◌+◌, ◌-◌, ◌*◌, ◌<◌, ◌++◌, length, ap, ◌∙◌, suc-mul, arith}
 use Rattle.report.specs.Reports.{lines_from, lists_from}
 use Rattle.report.specs.Flat.{cut}
 use Rattle.report.proofs.Lengths.{lines_length, row_listable}
-use Rattle.report.proofs.Onward.{Left, left_all, left_on, left_none, lists_next, lists_done}
+use Rattle.report.proofs.Onward.{left_on, left_none, lists_next, lists_done}
 use Rattle.report.proofs.page.Page.lists.Goals as goal
 
 -- one list less is left
@@ -10,25 +10,6 @@ one_less : (k i n : ℕ) → i < k → (k - i) * n ≡ (k - (i + 1)) * n + n
 one_less k i n l =
     let less : k - i ≡ suc (k - (i + 1)) = omega arith in
     ap (λ (j : ℕ). j * n) less ∙ suc-mul (k - (i + 1)) n
-
-pub loop-order-init : goal.loop-order-init
-loop-order-init c =
-    let none : c.args.orders.number - 0 ≡ c.args.orders.number = omega arith in
-    let at = c.args.self.now.at in
-    let page = c.args.self.now.bytes.now in
-    let whole = lists_from 79 0 (cut c.args.orders.number c.args.events c.args.row.numbers.now) in
-    record {
-      same = refl;
-      left = subst (λ (k : ℕ). Left at whole page at (lists_from 79 0 (cut k c.args.events c.args.row.numbers.now)) page) (sym none) (left_all at whole page);
-      along = ap (λ (k : ℕ). at + 14 * (k * c.args.events)) none;
-      there = subst (λ (k : ℕ). k * c.args.events ≤ length c.args.row.numbers.now) (sym none) c.requires.there;
-    }
-
-pub split_at-requires : goal.split_at-requires
-split_at-requires c = omega (arith, one_less c.args.orders.number c.loop-order.order c.args.events c.loop-order-test.true)
-
-pub list-requires : goal.list-requires
-list-requires c = record { room = omega (arith, one_less c.args.orders.number c.loop-order.order c.args.events c.loop-order-test.true) }
 
 pub loop-order-preserved : goal.loop-order-preserved
 loop-order-preserved c =

@@ -9,24 +9,6 @@ use Rattle.report.proofs.Onward.{left_on, left_none, orders_next, orders_done}
 use Rattle.report.proofs.page.Page.orders.Goals as goal
 use Rattle.report.proofs.page.Page.orders.Goals.{Joined-event-locations, then-event-locations, else-event-locations}
 
--- an initial write begins the order of its location, and any other goes on with that at hand
-turned : (c : Joined-event-locations)
-    → (c.if-event-locations.location.number ≡ cond (ltb (get_or c.args.writes.numbers.now c.loop-write.write-index 0) c.args.locations) (get_or c.args.writes.numbers.now c.loop-write.write-index 0) c.loop-write.location.number)
-    × (c.if-event-locations.position ≡ cond (ltb (get_or c.args.writes.numbers.now c.loop-write.write-index 0) c.args.locations) 0 c.loop-write.position)
-turned c =
-    let x = get_or c.args.writes.numbers.now c.loop-write.write-index 0 in
-    let n = c.args.locations in
-    let l = c.loop-write.location.number in
-    let here : c.of-event.result.number ≡ x = c.of-event.ensures ∙ c.from.ensures in
-    elim c.if-event-locations.branch [
-      | then-event-locations w ↦
-          let yes = lt-ltb x n (omega (arith, w.if-event-locations.true)) in
-          (ap (λ (a : Column). a.number) w.location-is ∙ here ∙ sym (cond-true (ltb x n) x l yes), w.position-is ∙ sym (cond-true (ltb x n) 0 c.loop-write.position yes))
-      | else-event-locations w ↦
-          let no = le-ltb x n (omega (arith, w.if-event-locations.false)) in
-          (ap (λ (a : Column). a.number) w.location-is ∙ sym (cond-false (ltb x n) x l no), w.position-is ∙ sym (cond-false (ltb x n) 0 c.loop-write.position no))
-    ]
-
 pub loop-write-preserved : goal.loop-write-preserved
 loop-write-preserved c =
     let xs = c.args.writes.numbers.now in
@@ -35,7 +17,17 @@ loop-write-preserved c =
     let n = c.args.locations in
     let location = c.if-event-locations.location in
     let position = c.if-event-locations.position in
-    let now = turned (goal.at.loop-write-preserved c).Joined-event-locations in
+    let here : c.of-event.result.number ≡ x = c.of-event.ensures ∙ c.from.ensures in
+    -- an initial write begins the order of its location, and any other goes on with that at hand
+    let now : (location.number ≡ cond (ltb x n) x c.loop-write.location.number) × (position ≡ cond (ltb x n) 0 c.loop-write.position) =
+    elim c.if-event-locations.branch [
+      | then-event-locations w ↦
+          let yes = lt-ltb x n (omega (arith, w.if-event-locations.true)) in
+          (ap (λ (a : Column). a.number) w.location-is ∙ here ∙ sym (cond-true (ltb x n) x c.loop-write.location.number yes), w.position-is ∙ sym (cond-true (ltb x n) 0 c.loop-write.position yes))
+      | else-event-locations w ↦
+          let no = le-ltb x n (omega (arith, w.if-event-locations.false)) in
+          (ap (λ (a : Column). a.number) w.location-is ∙ sym (cond-false (ltb x n) x c.loop-write.location.number no), w.position-is ∙ sym (cond-false (ltb x n) 0 c.loop-write.position no))
+    ] in
     let low : position ≤ i = omega (arith, now.1, cond_low (ltb x n) c.loop-write.position) in
     let text = report_line 77 location.number c.of.result.number c.of-event.result.number in
     let more = orders_from n location.number (position + 1) (drop (i + 1) xs) in

@@ -6,7 +6,7 @@ use Rattle.std.proofs.lemmas.Bool.{cases_eq, cases_lt, eq-eqb, ne_eqb, lt-ltb, l
 use Rattle.std.proofs.lemmas.Bool.Decides.{nat_tests}
 use Rattle.event_set.specs.Sets.{bit, has, weight}
 use Rattle.event_set.specs.declared.event_set.EventSet.{EventSet}
-use Rattle.event_set.proofs.Digits.{bit_zero, Taken}
+use Rattle.event_set.proofs.Digits.{bit_zero, bit_not, Taken}
 
 -- the set of the words ws
 abbrev pub events : List ℕ → EventSet
@@ -35,6 +35,20 @@ has_none x = elim (cases_lt x 256) [
   | inl l ↦ ap (λ w. ltb x 256 && bit w (x % 64)) (get_or-replicate {A = ℕ} 4 (x / 64) 0 0 (omega arith)) ∙ none_under (ltb x 256) (bit 0 (x % 64)) (bit_zero (x % 64))
   | inr l ↦ ap (λ t. t && bit (get_or (replicate 4 0) (x / 64) 0) (x % 64)) (le-ltb x 256 l)
 ]
+
+-- where every word is 2 ^ 64 - 1
+pub has_all : (x : ℕ) → has (events (replicate 4 18446744073709551615)) x ≡ ltb x 256
+unfolding has
+has_all x = elim (cases_lt x 256) [
+  | inl l ↦
+      ap (λ w. ltb x 256 && bit w (x % 64)) (get_or-replicate {A = ℕ} 4 (x / 64) 18446744073709551615 0 (omega arith))
+      ∙ ap (λ t. ltb x 256 && t) (bit_not 64 0 (x % 64) (omega arith) (omega arith) ∙ ap not (bit_zero (x % 64)))
+      ∙ both_same (ltb x 256)
+  | inr l ↦ has_outside (events (replicate 4 18446744073709551615)) x l ∙ sym (le-ltb x 256 l)
+]
+  where
+    both_same : (p : Bool) → (p && true) ≡ p
+    both_same p = grind arith
 
 -- a write of the word i
 pub word_set : (ws : List ℕ) (i v j k : ℕ) → i < length ws → bit (get_or (set ws i v) j 0) k ≡ cond (eqb j i) (bit v k) (bit (get_or ws j 0) k)

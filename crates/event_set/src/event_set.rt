@@ -21,6 +21,15 @@ impl EventSet {
         EventSet { words: [0; 4] }
     }
 
+    /// The set with all 256 events.
+    pub fn full() -> EventSet
+        ensures has_every_event { HasJust result (λ x. nat_lt x 256) }
+    {
+        EventSet {
+            words: [u64::MAX; 4],
+        }
+    }
+
     /// The events below `n`: all 256, where `n` is larger.
     pub fn below(n: usize) -> EventSet
         ensures has_just_those_below { HasJust result (λ x. nat_lt x 256 && nat_lt x n) }

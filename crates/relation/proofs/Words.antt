@@ -1,5 +1,5 @@
 -- A table by its words: what lies past event 255, what a write of one word does, and its rows as sets.
-use Rattle.std.proofs.Common.{◌≡◌, ℕ, zero, suc, ◌+◌, ◌*◌, ◌/◌, ◌%◌, ◌<◌, ◌≤◌, false, cond, ◌&&◌, T, eqb, ltb, ◌⊎◌, List, [], ◌∷◌, length, get_or, set, replicate, sym, refl, ap, ◌∙◌, inl, inr, add-zero, arith}
+use Rattle.std.proofs.Common.{◌≡◌, ℕ, ◌+◌, ◌*◌, ◌/◌, ◌%◌, ◌<◌, ◌≤◌, false, cond, ◌&&◌, T, eqb, ltb, ◌⊎◌, List, length, get_or, set, replicate, sym, refl, ap, ◌∙◌, inl, inr, arith}
 use Rattle.std.proofs.lemmas.List.{get_or-replicate}
 use Rattle.std.proofs.lemmas.Bool.{cases_lt, lt-ltb}
 use Rattle.std.proofs.lemmas.Bool.Decides.{nat_tests}
@@ -44,21 +44,12 @@ unfolding holds
 holds_set ws i v a b fits =
     either_under (ltb a 256) _ _ _ _ (either_under (ltb b 256) _ _ _ _ (word_set ws i v (4 * a + b / 64) (b % 64) fits))
 
--- the four words of a row
-four : (f : ℕ → ℕ) (q : ℕ) → q < 4 → get_or (f 0 ∷ f 1 ∷ f 2 ∷ f 3 ∷ []) q 0 ≡ f q
-four f zero h = refl
-four f (suc zero) h = refl
-four f (suc (suc zero)) h = refl
-four f (suc (suc (suc zero))) h = refl
-four f (suc (suc (suc (suc q)))) h = absurd (omega arith)
-
-pub has_row : (ws : List ℕ) (a x : ℕ) → a < 256
-    → has (events (get_or ws (4 * a) 0 ∷ get_or ws (4 * a + 1) 0 ∷ get_or ws (4 * a + 2) 0 ∷ get_or ws (4 * a + 3) 0 ∷ [])) x ≡ holds (table ws) a x
-has_row ws a x l = elim (cases_lt x 256) [
+-- the set of the four words of a row
+pub has_row : (ws os : List ℕ) (a x : ℕ) → a < 256 → ((q : ℕ) → q < 4 → get_or os q 0 ≡ get_or ws (4 * a + q) 0) → has (events os) x ≡ holds (table ws) a x
+has_row ws os a x l row = elim (cases_lt x 256) [
   | inr h ↦ has_outside _ x h ∙ sym (holds_outside (table ws) a x (inr h))
   | inl h ↦
-      has_at _ (x / 64) x refl
-      ∙ ap (λ n. ltb x 256 && bit (get_or (get_or ws n 0 ∷ get_or ws (4 * a + 1) 0 ∷ get_or ws (4 * a + 2) 0 ∷ get_or ws (4 * a + 3) 0 ∷ []) (x / 64) 0) (x % 64)) (sym (add-zero (4 * a)))
-      ∙ ap (λ n. ltb x 256 && bit n (x % 64)) (four (λ q. get_or ws (4 * a + q) 0) (x / 64) (omega arith))
+      has_at os (x / 64) x refl
+      ∙ ap (λ n. ltb x 256 && bit n (x % 64)) (row (x / 64) (omega arith))
       ∙ sym (holds_at ws (4 * a + x / 64) a x refl ∙ ap (λ t. t && (ltb x 256 && bit (get_or ws (4 * a + x / 64) 0) (x % 64))) (lt-ltb a 256 l))
 ]

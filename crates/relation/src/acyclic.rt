@@ -18,7 +18,7 @@ impl Relation {
         ensures true_exactly_when_there_is_no_cycle { MatchBool result (Acyclic (holds self.now)) (Cyclic (holds self.now)) }
         ensures there_is_a_cycle_exactly_when_an_event_reaches_itself { CyclesAreReturns }
     {
-        let mut left = EventSet::below(256);
+        let mut left = EventSet::full();
         for a in (0..256usize).rev() {
             if left.contains(a as u8) && !self.unwind(a as u8, &mut left, TOO_MANY) {
                 return false;

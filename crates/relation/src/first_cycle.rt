@@ -27,7 +27,7 @@ impl Relation {
         let mut ways = *self;
         for between in 0..256usize {
             if let Some(start) = ways.lowest_return() {
-                return self.told_from(start, between);
+                return self.told_from(start, between as u8);
             }
             ways = self.composed(&ways);
         }
@@ -38,13 +38,7 @@ impl Relation {
     fn lowest_return(&self) -> Option<u8>
         ensures { MatchOption result ((x : ℕ) → holds self.now x x ≡ false) (λ a. T (holds self.now a a) × ((x : ℕ) → x < a → holds self.now x x ≡ false)) }
     {
-        // Not `find`: the library has no lemma on what it answers over `0..=255`.
-        for a in 0..256usize {
-            if self.contains(a as u8, a as u8) {
-                return Some(a as u8);
-            }
-        }
-        None
+        EventSet::full().find(|a| self.contains(*a, *a))
     }
 
     /// The pairs that a step here and then one of `other` join.
@@ -52,8 +46,8 @@ impl Relation {
         ensures { (x y : ℕ) → Decides (holds result x y) (Then (holds self.now) (holds other.now) x y) }
     {
         let mut all = Relation::empty();
-        for a in 0..256usize {
-            all.join_row(a as u8, &other.image(self.row(a as u8)));
+        for a in EventSet::full() {
+            all.join_row(a, &other.image(self.row(a)));
         }
         all
     }
@@ -70,8 +64,7 @@ impl Relation {
     }
 
     /// The first way from `start` by `between` events back to it: there is one, and it fits.
-    fn told_from(&self, start: u8, between: usize) -> Option<Sequence>
-        requires few { between < 256 }
+    fn told_from(&self, start: u8, between: u8) -> Option<Sequence>
         requires first { FirstReturn (holds self.now) between start }
         ensures { IsSomeAnd result (λ s. FirstCycle (holds self.now) (events s)) }
     {
@@ -80,22 +73,21 @@ impl Relation {
         cycle.push(start).ok()?;
         let mut here = start;
         for k in (0..between).rev() {
-            here = self.lowest_into(here, ways.row(k as u8))?;
+            here = self.lowest_into(here, ways.row(k))?;
             cycle.push(here).ok()?;
         }
         Some(cycle)
     }
 
     /// Row k, for each k below `limit`: the events from which a way by k events leads to `target`.
-    fn ways_to(&self, target: u8, limit: usize) -> Relation
-        requires { limit ≤ 256 }
+    fn ways_to(&self, target: u8, limit: u8) -> Relation
         ensures { (k x : ℕ) → k < limit → Decides (holds result k x) (Way (holds self.now) k x target) }
     {
         let back = self.transposed();
         let mut ways = Relation::empty();
         let mut layer = back.row(target);
         for k in 0..limit {
-            ways.join_row(k as u8, &layer);
+            ways.join_row(k, &layer);
             layer = back.image(layer);
         }
         ways

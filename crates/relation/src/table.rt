@@ -5,6 +5,7 @@ ghost use Rattle.relation.specs.Table.{holds, Is};
 ghost use Rattle.cycles.specs.Laws.{LargerKeepsCycles};
 
 use event_set::EventSet;
+use std::array;
 
 /// The pair (a, b) is bit b mod 64 of word 4a + b div 64.
 #[derive(Clone, Copy)]
@@ -39,13 +40,7 @@ impl Relation {
     pub fn row(&self, a: u8) -> EventSet
         ensures has_just_the_seconds_of_a { HasJust result (λ y. holds self.now a y) }
     {
-        let at = 4 * a as usize;
-        EventSet::from([
-            self.words[at],
-            self.words[at + 1],
-            self.words[at + 2],
-            self.words[at + 3],
-        ])
+        EventSet::from(array::from_fn(|i| self.words[4 * a as usize + i]))
     }
 
     /// The lowest event of `events` that `a` is paired with.
@@ -83,10 +78,9 @@ impl Relation {
         ensures holds_each_pair_turned { Is result (λ x y. holds self.now y x) }
     {
         let mut back = Relation::empty();
-        // Not `0..=255`, here and in the other walks of all rows: it ends in two ways, and each proof would be told twice.
-        for a in 0..256usize {
-            for b in self.row(a as u8) {
-                back.insert(b, a as u8);
+        for a in EventSet::full() {
+            for b in self.row(a) {
+                back.insert(b, a);
             }
         }
         back

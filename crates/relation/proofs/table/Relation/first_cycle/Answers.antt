@@ -26,7 +26,6 @@ told_from-requires c =
     let ways = c.loop-between.invariant.0 in
     let found = c.in-Some.ensures in
     record {
-      few = omega arith;
       first = record {
         returns = (ways c.in-Some.start c.in-Some.start).0 (is_true _ found.0);
         lowest = λ b l w. both_ways _ (found.1 b l) ((ways b b).1 w);

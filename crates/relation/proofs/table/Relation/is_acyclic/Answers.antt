@@ -12,9 +12,9 @@ pub loop-a-init : goal.loop-a-init
 loop-a-init c = (
   λ x p.
       let low = plus_inside (holds c.args.self.now) 256 (holds_inside c.args.self.now) p in
-      let at = c.below-left.ensures.has_just_those_below x in
+      let at = c.full-left.ensures.has_every_event x in
       grind (arith, nat_tests),
-  λ x l. has_outside c.below-left.result x l,
+  λ x l. has_outside c.full-left.result x l,
 )
 
 pub returns-then-not-unwind : goal.returns-then-not-unwind

@@ -35,7 +35,7 @@ pub loop-k-preserved : goal.loop-k-preserved
 loop-k-preserved c =
     let next = candidates (goal.at.loop-k-preserved c).After-lowest_into in
     let found = c.in_ok-here.ensures in
-    let room : length (events c.loop-k.cycle) < 256 = omega (arith, told_length _ _ _ _ _ _ c.loop-k.invariant, c.requires.few) in
+    let room : length (events c.loop-k.cycle) < 256 = omega (arith, told_length _ _ _ _ _ _ c.loop-k.invariant) in
     told_more _ _ _ _ _ _ c.loop-k.invariant (omega arith) _ c.in_ok-here.here
     (appended _ _ c.in_ok-here.here c.push-in-loop-k.ensures.at_the_end_where_there_is_room room)
     ((next c.in_ok-here.here).0 (and_from _ _ (is_true _ found.0) (is_true _ found.1)))

@@ -1,5 +1,6 @@
 -- Sweeps from the last to the first: each joins what stands behind it, in its thread or at its location.
-use Rattle.std.proofs.Common.{◌≡◌, ℕ, ◌+◌, ◌-◌, ◌<◌, ◌≤◌, Bool, false, ◌&&◌, ◌||◌, eqb, ltb, leb, List, [], ◌∷◌, length, get_or, drop, Some, None, sym, refl, ap, ◌∙◌, ap₂, add-one, arith, drop-cons}
+use Rattle.std.proofs.Common.{◌≡◌, ℕ, ◌+◌, ◌<◌, Bool, false, ◌&&◌, ◌||◌, eqb, ltb, leb, List, [], ◌∷◌, ◌++◌, length, Some, None, sym, ap, ◌∙◌, arith, append_assoc, length-append, get_or}
+use Rattle.std.proofs.Math.Seq.{get_or-append_seam}
 use Rattle.std.proofs.lemmas.Bool.Decides.{nat_tests}
 use Rattle.event.specs.Labels.{agree, location}
 use Rattle.execution.specs.Lists.{holds as stands, precedes}
@@ -29,20 +30,23 @@ stands_in_thread : (n i a s t y ty : ℕ) (old new : Bool) → i ≡ a + 1 → a
     → new ≡ (leb a y && (ltb y n && eqb ty t))
 stands_in_thread n i a s t y ty old new next within its was added = grind (arith, nat_tests)
 
-pub thread_turn : (g : Content) (entry t later u after : Relation) (i s : ℕ) (row : ℕ → Bool) → 0 < i → i ≤ length g.events
+pub threads_none : (g : Content) (entry none : Relation) (i : ℕ) → i ≡ length g.events → Is none (λ _ _. false) → ThreadsFrom g entry i entry none
+threads_none g entry none i past empty = (λ x y. grind (arith, nat_tests), λ s y. let e = empty s y in grind (arith, nat_tests))
+
+pub thread_turn : (g : Content) (entry t later u after : Relation) (i a s : ℕ) (row : ℕ → Bool) → i ≡ a + 1 → a < length g.events
     → ThreadsFrom g entry i t later
     → ((y : ℕ) → row y ≡ holds later s y)
-    → Is u (λ x y. holds t x y || (eqb x (i - 1) && row y))
-    → Is after (λ x y. (eqb x s && eqb y (i - 1)) || holds later x y)
-    → s ≡ thread_of g (i - 1)
-    → ThreadsFrom g entry (i - 1) u after
-thread_turn g entry t later u after i s row some within was behind joined added its = (
+    → Is u (λ x y. holds t x y || (eqb x a && row y))
+    → Is after (λ x y. (eqb x s && eqb y a) || holds later x y)
+    → s ≡ thread_of g a
+    → ThreadsFrom g entry a u after
+thread_turn g entry t later u after i a s row next within was behind joined added its = (
   λ x y.
-      joins_thread (length g.events) i (i - 1) s x y (thread_of g x) (thread_of g y) (holds t x y) (row y) (holds u x y) (holds entry x y)
-      (omega arith) (λ e. ap (λ z. thread_of g z) e ∙ sym its) (was.0 x y) (behind y ∙ was.1 s y) (joined x y),
+      joins_thread (length g.events) i a s x y (thread_of g x) (thread_of g y) (holds t x y) (row y) (holds u x y) (holds entry x y)
+      next (λ e. ap (λ z. thread_of g z) e ∙ sym its) (was.0 x y) (behind y ∙ was.1 s y) (joined x y),
   λ x y.
-      stands_in_thread (length g.events) i (i - 1) s x y (thread_of g y) (holds later x y) (holds after x y)
-      (omega arith) (omega arith) (λ e. ap (λ z. thread_of g z) e ∙ sym its) (was.1 x y) (added x y),
+      stands_in_thread (length g.events) i a s x y (thread_of g y) (holds later x y) (holds after x y)
+      next within (λ e. ap (λ z. thread_of g z) e ∙ sym its) (was.1 x y) (added x y),
 )
 
 -- the writes xs are joined, and stand in later by their locations
@@ -107,16 +111,9 @@ skip_turn g entry t later xs w was its =
           (λ e. ap (λ o. agree o (Some x)) (at-w y e)) (was.1 x y),
     )
 
--- the writes from one place on
-pub from_place : (xs ys : List ℕ) (i : ℕ) → xs ≡ ys → 0 < i → i ≤ length xs → drop (i - 1) ys ≡ get_or xs (i - 1) 0 ∷ drop i ys
-from_place xs ys i e some within =
-    let next : i - 1 + 1 ≡ i = omega arith in
-    let first : i - 1 < length ys = omega (arith, ap length e) in
-    drop-cons ys (i - 1) 0 first ∙ ap₂ (λ x zs. x ∷ zs) (ap (λ zs. get_or zs (i - 1) 0) (sym e)) (ap (λ k. drop k ys) (sym (add-one (i - 1)) ∙ next))
+-- an item that is taken from the back of what is left of a list
+pub taken_back : {A : Type 0} (all left rest done : List A) (x : A) → all ≡ left ++ done → left ≡ rest ++ (x ∷ []) → all ≡ rest ++ (x ∷ done)
+taken_back all left rest done x e f = e ∙ ap (λ ys. ys ++ done) f ∙ append_assoc rest (x ∷ []) done
 
-pub past_last : (xs ys : List ℕ) → xs ≡ ys → drop (length xs) ys ≡ []
-past_last xs ys e = ap (λ zs. drop (length zs) ys) e ∙ none ys
-  where
-    none : (zs : List ℕ) → drop (length zs) zs ≡ []
-    none [] = refl
-    none (z ∷ zs) = none zs
+pub taken_at : {A : Type 0} (all rest done : List A) (x d : A) → all ≡ rest ++ (x ∷ done) → (length rest < length all) × (x ≡ get_or all (length rest) d)
+taken_at all rest done x d e = (omega (arith, ap length e, length-append rest (x ∷ done)), sym (ap (λ ys. get_or ys (length rest) d) e ∙ get_or-append_seam rest x done d))

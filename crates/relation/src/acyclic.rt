@@ -19,6 +19,7 @@ impl Relation {
         ensures there_is_a_cycle_exactly_when_an_event_reaches_itself { CyclesAreReturns }
     {
         let mut left = EventSet::full();
+        // Not `0..=u8::MAX`: it ends by a last step of its own, which each proof would have to tell again.
         for a in (0..256usize).rev() {
             if left.contains(a as u8) && !self.unwind(a as u8, &mut left, TOO_MANY) {
                 return false;

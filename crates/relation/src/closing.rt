@@ -12,6 +12,7 @@ impl Relation {
     pub fn close(&mut self)
         ensures holds_just_what_one_or_more_steps_join { Closure (holds self.old) (holds self.new) }
     {
+        // Not `0..=u8::MAX`: it ends by a last step of its own, which each proof would have to tell again.
         for a in (0..256usize).rev() {
             let reached = self.reached(a as u8);
             self.join_row(a as u8, &reached);

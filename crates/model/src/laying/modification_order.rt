@@ -12,10 +12,8 @@ use relation::Relation;
 pub fn add_modification_order(graph: &Graph, table: &mut Relation)
     ensures adds_exactly_modification_order { Is table.new (λ a b. mo (view graph.now) a b || holds table.old a b) }
 {
-    let placed = graph.placed();
     let mut later = Relation::empty();
-    for i in (0..placed.len()).rev() {
-        let write = placed[i];
+    for &write in graph.placed().iter().rev() {
         if let Some(location) = location_of(graph, write) {
             table.join_row(write, &later.row(location));
             later.insert(location, write);

@@ -33,11 +33,9 @@ fn add_initial_order(graph: &Graph, table: &mut Relation)
 pub(crate) fn add_thread_order(graph: &Graph, table: &mut Relation)
     ensures adds_each_thread_by_number { Is table.new (λ a b. thread_order (view graph.now) a b || holds table.old a b) }
 {
-    let events = graph.events();
     let mut later = Relation::empty();
-    for a in (0..events.len()).rev() {
-        let thread = events[a].thread;
-        table.join_row(a as u8, &later.row(thread));
-        later.insert(thread, a as u8);
+    for (a, event) in graph.events().iter().enumerate().rev() {
+        table.join_row(a as u8, &later.row(event.thread));
+        later.insert(event.thread, a as u8);
     }
 }

@@ -1,8 +1,7 @@
-use Rattle.std.proofs.Common.{◌≡◌, ℕ, false, Decides}
-use Rattle.event_set.specs.Sets.{has}
+use Rattle.std.proofs.Common.{ℕ, ◌<◌, Decides}
 use Rattle.relation.specs.Table.{holds}
 use Rattle.cycles.specs.Steps.{Then}
 use Rattle.relation.proofs.table.Relation.composed.Given as goal
 
 abbrev pub invariant-loop-a : goal.invariant-loop-a
-invariant-loop-a l = (x y : ℕ) → Decides (holds l.all x y) ((has l.a-iterator x ≡ false) × Then (holds l.self) (holds l.other) x y)
+invariant-loop-a l = (x y : ℕ) → Decides (holds l.all x y) ((x < l.a) × Then (holds l.self) (holds l.other) x y)

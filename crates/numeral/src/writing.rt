@@ -13,11 +13,12 @@ pub fn write(number: u32, field: &mut [u8]) -> Result<(), TooNarrow>
     ensures a_field_too_narrow_is_left_as_it_was { length field.old < length (decimal number) → (is_ok result ≡ false) × (field.new ≡ field.old) }
     ensures what_is_written_reads_back { is_ok result ≡ true → numeral field.new ≡ Some number }
 {
-    if field.len() < digits(number) {
+    let Some(start) = field.len().checked_sub(digits(number)) else {
         return Err(TooNarrow);
-    }
-    let start = spell(number, field);
-    field[..start].fill(b' ');
+    };
+    let (front, back) = field.split_at_mut(start);
+    front.fill(b' ');
+    spell(number, back);
     Ok(())
 }
 
@@ -28,20 +29,16 @@ fn digits(number: u32) -> usize
     number.max(1).ilog10() as usize + 1
 }
 
-/// Writes the numeral at the field's end, from its last digit on, and says where it begins.
-fn spell(number: u32, field: &mut [u8]) -> usize
-    requires { length (decimal number) ≤ length field.old }
-    ensures begins { result ≤ length field.old }
-    ensures numeral_at_the_end { drop result field.new ≡ decimal number }
+/// Writes the numeral over a field as wide as it: the last digit into the last byte, and the others in front of it.
+fn spell(number: u32, field: &mut [u8])
+    requires { length field.old ≡ length (decimal number) }
+    ensures { field.new ≡ decimal number }
 {
-    // A `for` over the bytes from the end would have to count the digits again to know where to stop.
-    let mut rest = number;
-    let mut start = field.len() - 1;
-    while rest >= 10 {
-        field[start] = b'0' + (rest % 10) as u8;
-        rest /= 10;
-        start -= 1;
+    // Not a loop over `iter_mut().rev()`: tried, and nothing is known of what a slice holds after a loop over it in reverse.
+    if let Some((last, others)) = field.split_last_mut() {
+        *last = b'0' + (number % 10) as u8;
+        if number >= 10 {
+            spell(number / 10, others);
+        }
     }
-    field[start] = b'0' + rest as u8;
-    start
 }

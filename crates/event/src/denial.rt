@@ -25,6 +25,7 @@ pub enum Denial {
 }
 
 impl Denial {
+    // Not `u8::from`: a denial has two numbers, and a conversion would not say which it gives.
     pub fn number(self) -> u8
         ensures number_of_its_case { result ≡ denial_number self }
     {

@@ -34,6 +34,7 @@ impl TryFrom<u32> for Mode {
     }
 }
 
+/// The kinds of event.
 #[derive(Clone, Copy)]
 pub enum Kind {
     Read,
@@ -66,6 +67,7 @@ pub enum Label {
     },
 }
 
+/// What one thread did in one step.
 #[derive(Clone, Copy)]
 pub struct Event {
     pub thread: u8,
@@ -146,21 +148,21 @@ impl Label {
         ensures of_every_label { result ≡ mode_of self }
     {
         match self {
-            Label::Read { mode, .. } => mode,
-            Label::Write { mode, .. } => mode,
-            Label::Update { mode, .. } => mode,
+            Label::Read { mode, .. } | Label::Write { mode, .. } | Label::Update { mode, .. } =>
+                mode,
             Label::Fence { mode } => mode,
         }
     }
 
+    // This and the two below it are three matches, since each gives other fields of other cases.
     /// The location of an access.
     pub fn location(self) -> Option<u8>
         ensures of_every_access { result ≡ location self }
     {
         match self {
-            Label::Read { location, .. } => Some(location),
-            Label::Write { location, .. } => Some(location),
-            Label::Update { location, .. } => Some(location),
+            Label::Read { location, .. }
+            | Label::Write { location, .. }
+            | Label::Update { location, .. } => Some(location),
             Label::Fence { .. } => None,
         }
     }

@@ -11,6 +11,7 @@ pub struct Closed {
 }
 
 impl Closed {
+    // No `From`: it would be public, and would close tables that no open graph holds.
     pub(crate) fn of(graph: Graph) -> Closed
         ensures { result.graph ≡ graph }
     {

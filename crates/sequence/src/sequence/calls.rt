@@ -40,8 +40,7 @@ impl<T: Copy, const N: usize> Sequence<T, N> {
         if self.len == N {
             return Err(Full);
         }
-        let places = &mut self.places[..];
-        places[self.len] = item;
+        self.places[self.len] = item;
         self.len += 1;
         Ok(())
     }
@@ -64,8 +63,7 @@ impl<T: Copy, const N: usize> Sequence<T, N> {
         ensures in_place_of_the_one_there { items self.new ≡ slice_set (items self.old) at item }
     {
         if at < self.len {
-            let places = &mut self.places[..];
-            places[at] = item;
+            self.places[at] = item;
         }
     }
 }

@@ -40,6 +40,7 @@ impl TryFrom<u32> for Board {
     }
 }
 
+// A match in each method and no table of models: a model is chosen by a value here, and no function may hand out a `dyn`.
 impl MemoryModel for Board {
     ghost meaning = { meaning_of };
 

@@ -11,6 +11,7 @@ pub mod reading;
 #[derive(Clone, Copy)]
 pub struct Header {
     pub size: Size,
+    // A set of threads and a flag, as the line has them.
     /// bit t - 1 for thread t
     pub strong: u16,
     pub barrier: bool,

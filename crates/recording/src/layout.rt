@@ -91,6 +91,7 @@ impl LineKind {
 pub(crate) fn column(position: u8) -> u8
     ensures { result ≡ column_of position }
 {
+    // A table of the format, which no rule gives: no field has the position 0 or one above 6.
     match position {
         1 => 2,
         2 => 6,

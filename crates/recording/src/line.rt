@@ -19,6 +19,7 @@ pub(crate) struct Line<'a> {
 impl<'a> Line<'a> {
     ghost use Rattle.recording.specs.OneLine.{Splits, ReadsAt, Reads};
 
+    // No `TryFrom`: it would be public, and a line is the crate's own.
     pub(crate) fn of(line: &'a [u8]) -> Result<Line<'a>, Denial>
         ensures { Splits line.now result }
     {
@@ -72,6 +73,7 @@ impl<'a> Line<'a> {
         ensures { Reads self.entry.kind self.entry.rest.now (number_denial self.entry.kind self.entry.rest.now) result }
     {
         let mut numbers = [0; 5];
+        // By index: after `zip` over `iter_mut` (tried) nothing is known of the array, and `try_map` may give another error than the first.
         for (i, position) in Position::ALL.iter().enumerate() {
             numbers[i] = self.number(*position)?;
         }

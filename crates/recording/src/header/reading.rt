@@ -8,6 +8,7 @@ use boards::Board;
 use event::{Denial, Size};
 
 impl Header {
+    // No `TryFrom`: it would be public, and the five numbers are the crate's own.
     pub(crate) fn of(fields: [u32; 5]) -> Result<Header, Denial>
         ensures { MatchResult result (λ h. (heading_denial (heading fields) ≡ None) × (heading_of h ≡ heading fields)) (λ d. heading_denial (heading fields) ≡ Some d) }
     {

@@ -1,6 +1,6 @@
 //! Writes a number into a field.
 
-ghost use Rattle.std.specs.Prelude.{◌≡◌, ◌<◌, ◌≤◌, true, false, length, drop, is_ok, Some, decimal};
+ghost use Rattle.std.specs.Prelude.{◌≡◌, ◌<◌, ◌≤◌, true, false, length, is_ok, Some, decimal};
 ghost use Rattle.numeral.specs.Numerals.{justified, numeral};
 
 /// The numeral has more digits than the field has bytes.

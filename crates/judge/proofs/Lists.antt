@@ -2,18 +2,26 @@
 use Rattle.std.proofs.Common.{◌≡◌, ℕ, zero, suc, ◌+◌, ◌<◌, ◌≤◌, List, [], ◌∷◌, ◌++◌, Bool, true, cond, map, filter, length, take, drop, get_or, sym, refl, ap, ◌∙◌, subst, inl, inr, add-one, arith}
 use Rattle.std.proofs.lemmas.List.{append-nil, append_assoc, map-append, length-append, length_push, get_or_append_left, get_or_push, take-append-drop, drop_more}
 use Rattle.std.proofs.lemmas.List.Elements.{filter-append}
+use Rattle.std.proofs.Math.ListN.{set}
+use Rattle.std.proofs.Math.Seq.{set-append_seam}
 use Rattle.std.proofs.lemmas.Bool.{cases_eq}
 use Rattle.execution.specs.Lists.{upto}
 use Rattle.execution.specs.Content.{Content}
 use Rattle.cycles.specs.Listings.{Listing}
 use Rattle.model.specs.Meaning.{Meaning}
-use Rattle.verdict.specs.Answers.{joined}
+use Rattle.verdict.specs.Answers.{joined, laid}
 use Rattle.judge.specs.Sheets.{Listed}
 use Rattle.judge.specs.Judges.{ListsShown}
 
 pub joined_push : (xss : List (List ℕ)) (ys : List ℕ) → joined (xss ++ (ys ∷ [])) ≡ joined xss ++ ys
 joined_push [] ys = append-nil ys
 joined_push (xs ∷ xss) ys = ap (λ (zs : List ℕ). xs ++ zs) (joined_push xss ys) ∙ sym (append_assoc xs (joined xss) ys)
+
+-- one event more is written
+pub laid_more : (xs before : List ℕ) (v : ℕ) → length xs < length before → set (laid xs before) (length xs) v ≡ laid (xs ++ (v ∷ [])) before
+laid_more xs before v l =
+    ap (λ (ys : List ℕ). set (xs ++ ys) (length xs) v) (drop_more before (length xs) 0 l) ∙ set-append_seam xs _ _ v
+    ∙ sym (append_assoc xs (v ∷ []) _) ∙ ap (λ (n : ℕ). (xs ++ (v ∷ [])) ++ drop n before) (sym (length_push xs v))
 
 -- those of the first numbers
 module _ (f : ℕ → List ℕ) where

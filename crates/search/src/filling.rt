@@ -1,5 +1,5 @@
 //! Open writes placed one after the other, from the lowest number and the first place on.
-//! Every call has another graph under the same model, so a struct of the two would be built anew at each call.
+//! Each write that is placed makes another graph, so a struct of graph and model would be built anew at every step.
 ghost use Rattle.std.specs.Prelude.{MatchBool};
 ghost use Rattle.graph.specs.View.{view};
 ghost use Rattle.verdict.specs.Fillings.{Fillable};

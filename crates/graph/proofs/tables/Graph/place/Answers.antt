@@ -4,14 +4,11 @@ use Rattle.execution.specs.Entries.{place}
 use Rattle.sequence.specs.Sequences.{items}
 use Rattle.sequence.proofs.Fits.{items_fit}
 use Rattle.graph.specs.View.{view}
-use Rattle.graph.proofs.Stored.{not_denied, entered_sound, place_room, place_write, placed}
+use Rattle.graph.proofs.Stored.{not_denied, entered_sound, place_room, placed}
 use Rattle.graph.proofs.tables.Graph.place.Goals as goal
 
 pub overflow_add-at : goal.overflow_add-at
 overflow_add-at c = omega (arith, c.in_ok-at.ensures.its_first_place.0, items_fit c.args.self.now.placed)
-
-pub overflow_cast-write : goal.overflow_cast-write
-overflow_cast-write c = let small = place_write c.args.self.now c.args.write c.args.after c.in_ok-at.ensures.first_test_that_fails in omega arith
 
 pub unwrap-requires : goal.unwrap-requires
 unwrap-requires c = let room = place_room c.args.self.now c.args.write c.args.after c.in_ok-at.ensures.first_test_that_fails in search rules

@@ -8,7 +8,7 @@ use event_set::EventSet;
 use std::array;
 
 /// The pair (a, b) is bit b mod 64 of word 4a + b div 64.
-#[derive(Clone, Copy)]
+#[derive(Clone, Copy, PartialEq, Eq)]
 pub struct Relation {
     words: [u64; 1024],
 }

@@ -85,13 +85,9 @@ impl fmt::Display for Shape {
 }
 
 /// The events from `low` on that are below `high`.
-fn span(low: usize, high: usize) -> EventSet
-    requires { high ≤ 256 }
-{
-    let mut events = EventSet::empty();
-    for event in low..high {
-        events.insert(event as u8);
-    }
+fn span(low: usize, high: usize) -> EventSet {
+    let mut events = EventSet::below(high);
+    events.difference_with(&EventSet::below(low));
     events
 }
 

@@ -6,7 +6,7 @@ use Rattle.std.proofs.ByRecursion.{All-take, All-drop, All-from_get_or}
 use Rattle.verdict.specs.Answers.{joined}
 use Rattle.report.specs.Pages.{report_line}
 use Rattle.report.specs.declared.row.Row.{Row}
-use Rattle.report.specs.Texts.{Fits, Listable}
+use Rattle.report.proofs.Columns.{Fits, Listable}
 use Rattle.report.specs.Reports.{lines_from, lists_from}
 use Rattle.report.specs.Flat.{cut, orders_from}
 use Rattle.report.proofs.Spelled.{line_length}

@@ -1,3 +1,4 @@
+mod Columns
 mod Spelled
 mod Puts
 mod Onward

@@ -16,7 +16,8 @@ use Rattle.verdict.specs.Answers.{Answer, allowed, cyclic, no_placement, denied,
 use Rattle.verdict.specs.Dealings.{judge}
 use Rattle.verdict.specs.Law.{Carries, Lawful}
 use Rattle.verdict.proofs.Fitting.{answers_fit}
-use Rattle.report.specs.Texts.{Fits, Listable, Written}
+use Rattle.report.specs.Texts.{Written}
+use Rattle.report.proofs.Columns.{Fits, Listable}
 use Rattle.report.specs.Reports.{report}
 use Rattle.report.specs.Flat.{cycle_length, from_sheet}
 use Rattle.report.specs.Printing.{answered, LawfullyPrinted}

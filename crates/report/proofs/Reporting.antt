@@ -18,7 +18,7 @@ use Rattle.verdict.specs.Answers.{Answer, allowed, cyclic, no_placement, denied,
 use Rattle.verdict.proofs.Unique.{one_answer}
 use Rattle.verdict.proofs.Fitting.{answers_fit}
 use Rattle.report.specs.Pages.{report_line}
-use Rattle.report.specs.Texts.{Fits, Listable}
+use Rattle.report.proofs.Columns.{Fits, Listable}
 use Rattle.report.specs.Reports.{lines_from, lists_from, writes, open_writes, report}
 use Rattle.report.specs.Flat.{cut, orders_from, from_sheet}
 use Rattle.report.specs.Printing.{print_denial, answered, ReportsFit, OneReport}

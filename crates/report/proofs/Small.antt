@@ -16,7 +16,7 @@ use Rattle.cycles.proofs.Listed.{begun_inside, listing_begun, listing_length}
 use Rattle.model.specs.Meaning.{Meaning}
 use Rattle.verdict.specs.Shown.{modification_order, Shown}
 use Rattle.verdict.specs.Answers.{joined}
-use Rattle.report.specs.Texts.{Fits, Listable}
+use Rattle.report.proofs.Columns.{Fits, Listable}
 use Rattle.report.proofs.Orders.{all_held}
 
 pub all_joined : (P : ℕ → Type 0) (xss : List (List ℕ)) → AllByRecursion (λ (xs : List ℕ). AllByRecursion P xs) xss → AllByRecursion P (joined xss)

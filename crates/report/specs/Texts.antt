@@ -1,6 +1,5 @@
 -- Text on a page.
-use Rattle.std.specs.Prelude.{◌≡◌, ℕ, ◌+◌, ◌≤◌, List, ◌++◌, length, take, drop}
-use Rattle.std.specs.List.{AllByRecursion}
+use Rattle.std.specs.Prelude.{◌≡◌, ℕ, ◌+◌, List, ◌++◌, length, take, drop}
 
 -- a page with a text written from a place on; before and past that it stays
 unfoldable pub put : ℕ → List ℕ → List ℕ → List ℕ
@@ -10,12 +9,3 @@ put at text page = take at page ++ (text ++ drop (at + length text) page)
 pub record Written (at : ℕ) (text before : List ℕ) (end : ℕ) (after : List ℕ) : Type 0 where
   pub ends : end ≡ at + length text
   pub page : after ≡ put at text before
-
--- a number of at most four columns
-abbrev pub Fits : ℕ → Type 0
-Fits n = n ≤ 9999
-
--- numbers of at most four columns, and few enough to be counted in four
-pub record Listable (xs : List ℕ) : Type 0 where
-  pub few : length xs ≤ 9999
-  pub each : AllByRecursion Fits xs

@@ -56,37 +56,30 @@ fn add(pairs: &mut Relation, first: u8, seconds: &[u8]) {
     }
 }
 
-fn same(table: &Relation, expected: &Relation) -> bool {
-    (0..=u8::MAX).all(|a| (0..=u8::MAX).all(|b| table.contains(a, b) == expected.contains(a, b)))
-}
-
 #[test]
 fn orders_are_laid_whatever_the_table_held(rt: HostRuntime) -> Result<(), Fail> {
     let open = example()?;
     let mut table = Relation::empty();
     table.insert(200, 7);
     Threefold.lay(open.graph(), 0, &mut table);
-    assert!(rt; same(&table, &coherence()));
+    assert!(rt; table == coherence());
     let mut expected = program_order();
     expected.insert(2, 5);
     Threefold.lay(open.graph(), 1, &mut table);
-    assert!(rt;
-        same(&table, &expected),
-        "the other links are in program order"
-    );
+    assert!(rt; table == expected, "the other links are in program order");
     Threefold.lay(open.graph(), 2, &mut table);
     assert!(rt;
-        same(&table, &expected),
+        table == expected,
         "the other placements are in program order"
     );
     Threefold.lay(open.graph(), 3, &mut table);
     assert!(rt;
-        same(&table, &Relation::empty()),
+        table == Relation::empty(),
         "orders beyond the last are empty"
     );
     table.insert(200, 7);
     Threefold.lay_happens_before(open.graph(), &mut table);
-    assert!(rt; same(&table, &program_order()));
+    assert!(rt; table == program_order());
     Ok(())
 }
 
@@ -101,17 +94,17 @@ fn a_barrier_adds_what_a_fence_of_mode_5_orders(rt: HostRuntime) -> Result<(), F
     for before in 0..3u8 {
         expected.insert(before, 3);
     }
-    assert!(rt; same(&table, &expected));
+    assert!(rt; table == expected);
     barrier.lay(open.graph(), 3, &mut table);
     assert!(rt;
-        same(&table, &Relation::empty()),
+        table == Relation::empty(),
         "orders beyond the last stay empty"
     );
     let pile = Strong::new(barrier, 0b01);
     assert_eq!(rt; pile.orders(), 3);
     pile.lay(open.graph(), 0, &mut table);
     expected.insert(2, 4);
-    assert!(rt; same(&table, &expected), "thread 1 over the fence");
+    assert!(rt; table == expected, "thread 1 over the fence");
     Ok(())
 }
 
@@ -124,7 +117,7 @@ fn a_strong_thread_keeps_its_order(rt: HostRuntime) -> Result<(), Fail> {
     add(&mut expected, 5, &[6]);
     add(&mut expected, 6, &[7, 8]);
     assert!(rt;
-        same(&table, &expected),
+        table == expected,
         "thread 2 alone, and from no initial write"
     );
     Ok(())

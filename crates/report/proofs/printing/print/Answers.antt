@@ -4,7 +4,8 @@ use Rattle.event.specs.declared.denial.Denial.{Denial}
 use Rattle.graph.specs.declared.tables.Graph.{Graph}
 use Rattle.graph.specs.View.{view, of_closed}
 use Rattle.graph.proofs.Soundness.{sound_of}
-use Rattle.report.specs.Texts.{Fits, Listable, Written}
+use Rattle.report.specs.Texts.{Written}
+use Rattle.report.proofs.Columns.{Fits, Listable}
 use Rattle.std.proofs.ByRecursion.{All-get_or}
 use Rattle.report.specs.Flat.{from_sheet}
 use Rattle.report.specs.Printing.{LawfullyPrinted}

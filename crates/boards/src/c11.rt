@@ -48,7 +48,7 @@ impl Synchronising for C11 {
     }
 }
 
-/// One or more steps of program order or synchronizes-with.
+/// One or more steps of program order or synchronises-with.
 fn happens_before(graph: &Graph) -> Relation
     ensures { Is result (c11_hb (view graph.now)) }
 {

@@ -1,4 +1,5 @@
 //! COH: coherence.
+// Each model's file lists the parts of its order whole, as the rules do, though other models have some of them.
 ghost use Rattle.boards.specs.Coh.{coh};
 ghost use Rattle.boards.specs.OfCoh.{coh_rules};
 

@@ -54,6 +54,7 @@ fn add_preserved_program_order(graph: &Graph, table: &mut Relation)
 }
 
 /// All that is after an event, but after a plain write no plain read.
+// Not shared with `fenced_row` of the barrier layer: that one keeps what is in a set, this one takes it away.
 fn preserved_row(po: &Relation, writes: &EventSet, reads: &EventSet, a: u8) -> EventSet
     ensures { HasJust result (λ b. holds po.now a b && not (has writes.now a && has reads.now b)) }
 {

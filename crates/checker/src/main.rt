@@ -33,6 +33,7 @@ fn judge(rt: &HostRuntime, recording: &Recording) -> anyhow::Result<()> {
 /// The line that tells why a recording is denied; line 0 where no line is at fault.
 fn deny(rt: &HostRuntime, denial: Denial, line: usize, place: u8) -> anyhow::Result<()> {
     let mut page = [b' '; PAGE];
+    // A `Denial` is no `Error`, so `?` alone cannot hand it up.
     let length = report::denial_line(
         usize::from(denial.number()),
         line,

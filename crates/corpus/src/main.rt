@@ -14,6 +14,7 @@ fn main(rt: HostRuntime) -> anyhow::Result<()> {
     run(&rt)
 }
 
+// As in `recordings`: it reads into a `Vec`, and no library owns heap.
 fn run(rt: &HostRuntime) -> anyhow::Result<()> {
     let mut bytes = Vec::new(rt.alloc());
     rt.stdin().read_to_end(&mut bytes)?;
@@ -27,6 +28,7 @@ fn run(rt: &HostRuntime) -> anyhow::Result<()> {
 /// The first line of the report on a recording, and the report's digest.
 fn tell(rt: &HostRuntime, recorded: &[u8]) -> anyhow::Result<()> {
     let mut page = [b' '; PAGE];
+    // A `Denial` is no `Error`, so `?` alone cannot hand it up.
     let length = report::check_recording(recorded, &mut page).map_err(|_| anyhow!(
         "the page is too short"
     ))?;

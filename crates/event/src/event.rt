@@ -154,7 +154,7 @@ impl Label {
         }
     }
 
-    // This and the two below it are three matches, since each gives other fields of other cases.
+    // This, the one above and the two below are four matches, since each gives other fields of other cases.
     /// The location of an access.
     pub fn location(self) -> Option<u8>
         ensures of_every_access { result ≡ location self }

@@ -21,6 +21,7 @@ pub(crate) fn write(events: &[u8], sheet: &mut [u16])
     requires { length events.now ≤ length sheet.old }
     ensures { sheet.new ≡ laid events.now sheet.old }
 {
+    // By index: after `zip` over `iter_mut` nothing is known of the sheet.
     for (i, event) in events.iter().enumerate() {
         sheet[i] = u16::from(*event);
     }

@@ -14,6 +14,7 @@ use verdict::Verdict;
 const ALL: u16 = u16::MAX;
 
 /// The columns of the table: a name, a model, whether the barrier layer is over it, and the threads of the strong layer.
+// Tuples, since fourteen piles written out would be no plainer.
 const COLUMNS: [(&str, Board, bool, u16); 14] = [
     ("COH", Board::Coh, false, 0),
     ("C11", Board::C11, false, 0),

@@ -19,6 +19,7 @@ pub trait Model {
         ensures as_many_as_it_means { result ≡ (meaning self.now).orders };
 
     /// Leaves in `table` the pairs of that order, whatever it held. An order beyond the last is empty.
+    /// The table is the caller's, so that a layer adds to what the model below has laid there.
     fn lay(&self, graph: &Graph, order: usize, table: &mut Relation)
         ensures lays_exactly_the_pairs { Is table.new ((meaning self.now).pairs (view graph.now) order) };
 

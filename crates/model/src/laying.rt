@@ -1,4 +1,6 @@
 //! The four relations of a graph, each added to a table row by row.
+// Graph and table are two parameters and no struct: one graph is laid into several tables,
+// and parts of one table are added to another.
 pub mod events;
 pub mod locations;
 pub mod modification_order;

@@ -17,6 +17,7 @@ fn trimmed(field: &[u8]) -> &[u8]
     ensures { result.now ≡ unpadded field.now }
 {
     let mut rest = field;
+    // Not `trim_ascii_start`: a tab is no space.
     while let [b' ', after @ ..] = rest {
         rest = after;
     }

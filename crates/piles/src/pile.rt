@@ -13,6 +13,7 @@ use relation::Relation;
 #[derive(Clone, Copy, PartialEq, Eq, Debug)]
 pub struct Pile {
     pub board: Board,
+    // A flag and a set, as a recording's header has them.
     pub barrier: bool,
     /// bit t - 1 for thread t
     pub strong: u16,

@@ -24,6 +24,7 @@ pub(crate) struct Ordered<'a> {
 }
 
 impl Ordered<'_> {
+    // Two events and no `Race`, which they are only if the answer is yes.
     pub fn is_race(&self, a: u8, b: u8) -> bool
         ensures { result ≡ races (view self.now.graph.now) (holds self.now.happens_before.now) a b }
     {

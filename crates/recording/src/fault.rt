@@ -17,6 +17,7 @@ pub struct Denied {
 #[derive(Clone, Copy, PartialEq, Eq, Debug)]
 pub struct Fault {
     pub line: usize,
+    // 0 and no `Option`: the line that tells the fault has a number there.
     pub column: u8,
     pub denial: Denial,
 }

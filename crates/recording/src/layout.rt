@@ -37,6 +37,7 @@ impl Position {
         Position::Fifth,
     ];
 
+    // Not `u8::from`, which would make both promises in one member.
     pub(crate) fn number(self) -> u8
         ensures its_number { result ≡ position_number self }
         ensures one_of_five { (1 ≤ result) × (result ≤ 5) }
@@ -67,6 +68,7 @@ impl TryFrom<u8> for LineKind {
 
 impl LineKind {
     /// Which of the five fields a line of this kind fills.
+    // The rows of the format's table, so that the two can be compared row by row.
     fn layout(self) -> [bool; 5]
         ensures { result ≡ layout_of self }
     {

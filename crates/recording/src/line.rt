@@ -37,6 +37,7 @@ impl<'a> Line<'a> {
         ensures { result.now ≡ field_of self.entry.rest.now (position_number position) }
     {
         let position = position.number();
+        // Columns count from 1, and the letter has the first.
         &self.rest[column(position) as usize - 2..column(position + 1) as usize - 2]
     }
 

@@ -37,6 +37,7 @@ impl Relation {
         if limit == 0 {
             return false;
         }
+        // No `for`: `left` changes as it is walked.
         while let Some(next) = self.lowest_into(event, *left) {
             if !self.unwind(next, left, limit - 1) {
                 return false;

@@ -27,6 +27,7 @@ impl Relation {
     {
         let mut reached = self.row(a);
         let mut ahead = reached;
+        // No `for`: `ahead` changes as it is walked.
         while let Some(m) = ahead.next() {
             let mut row = self.row(m);
             if m > a {

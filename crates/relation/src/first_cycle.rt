@@ -47,7 +47,7 @@ impl Relation {
         ensures { (x y : ℕ) → Decides (holds result x y) (Then (holds self.now) (holds other.now) x y) }
     {
         let mut all = Relation::empty();
-        // Not `EventSet::full()`, tried: a cycle of 256 events is found 14 % later.
+        // Not `EventSet::full()`, tried: a cycle of 256 events is found 14 % later than by this range.
         for a in 0..256usize {
             all.join_row(a as u8, &other.image(self.row(a as u8)));
         }

@@ -24,6 +24,7 @@ impl Relation {
         let back = self.transposed();
         let mut left = EventSet::below(n);
         let mut listed = Sequence::empty(0);
+        // No `for`: `left` changes as it is walked.
         while let Some(event) = back.lowest_free(left) {
             listed.push(event).ok()?;
             left.remove(event);

@@ -63,6 +63,7 @@ impl Shape {
     pub fn over(self, n: usize) -> Relation {
         let mut table = Relation::empty();
         let count = n.min(256);
+        // Counted in `usize`, since the bound may be 256, which is no byte.
         for a in 0..count {
             table.join_row(a as u8, &self.row(count, a));
         }

@@ -6,6 +6,7 @@ use piles::Pile;
 use recording::Header;
 
 /// The strong layer over the barrier layer, where that is asked for, over the model.
+// No `From`: neither type is of this crate.
 pub(crate) fn pile_of(header: Header) -> Pile
     ensures its_board { result.board ≡ header.model }
     ensures its_barrier { result.barrier ≡ header.barrier }

@@ -12,11 +12,13 @@ use crate::line::report_line;
 #[derive(Drop)]
 pub(crate) struct Page<'a> {
     pub(crate) bytes: &'a mut [u8],
+    // A place and no slice that shrinks: the caller is told how far the page is written.
     pub(crate) at: usize,
     ghost long: { 17934 ≤ length bytes.now },
 }
 
 impl Page<'_> {
+    // The letter is a byte as it stands on the page: nothing is decided by it.
     pub(crate) fn line(&mut self, letter: u8, first: Column, second: Column, third: Column)
         requires room { self.old.at + 14 ≤ 17934 }
         ensures same_page { self.new.bytes.ghost_name ≡ self.old.bytes.ghost_name }

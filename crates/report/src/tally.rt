@@ -18,6 +18,7 @@ pub struct Tally {
 }
 
 impl Tally {
+    // No `From`, which would promise all five counts in one member.
     pub fn of(graph: &Graph) -> Tally
         ensures counts_its_threads { result.threads ≡ (view graph.now).threads }
         ensures counts_its_locations { result.locations ≡ (view graph.now).locations }

@@ -28,6 +28,7 @@ pub fn check_recording(bytes: &[u8], page: &mut [u8]) -> Result<usize, Denial>
     ensures no_other_text_is_right { (x y : List ℕ) → Told (meaning bytes.now) x → Told (meaning bytes.now) y → x ≡ y }
     ensures only_the_first_34_850_bytes_matter { meaning bytes.now ≡ meaning (take 34850 bytes.now) }
 {
+    // No page whose type tells its length: `print` and `denial_line` test it, each in its own order of denials.
     match recording::read(bytes) {
         Ok(recording) => report_recording(recording, page),
         Err(fault) => tell_denial(fault.denial, fault.line, fault.column, page),
@@ -54,6 +55,7 @@ fn print_recording(recording: Recording, page: &mut [u8]) -> Result<usize, Denia
 }
 
 /// Writes the line that tells a denial.
+// Not a `Fault`: where no line is at fault, the place is no column.
 fn tell_denial(denial: Denial, line: usize, place: u8, page: &mut [u8]) -> Result<usize, Denial>
     requires { line ≤ 9999 }
     ensures short { length page.old < 17934 → (result ≡ Err Page) × (page.new ≡ page.old) }

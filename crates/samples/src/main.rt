@@ -23,6 +23,7 @@ fn tell(rt: &HostRuntime, name: &str) -> anyhow::Result<()> {
     let path = format!(in rt.alloc(); "{name}.txt")?;
     let bytes = fs::read(rt, path.as_str())?;
     let mut page = [b' '; PAGE];
+    // A `Denial` is no `Error`, so `?` alone cannot hand it up.
     let length = report::check_recording(bytes.as_slice(), &mut page).map_err(|_| anyhow!(
         "the page is too short"
     ))?;

@@ -1,4 +1,5 @@
 //! Orders with a cycle.
+//! Graph and model are two parameters here too: a search asks about a new graph at every step.
 ghost use Rattle.std.specs.Prelude.{MatchBool};
 ghost use Rattle.cycles.specs.Cycles.{Acyclic, Cyclic};
 ghost use Rattle.graph.specs.View.{view};

@@ -46,7 +46,8 @@ fn fill<M: Model>(graph: &Graph, model: &M, from: u32) -> Option<Graph>
     None
 }
 
-/// Whether there is such an order. The highest open writes are tried alone first: where few do not fit, more do not.
+/// Whether the open writes from a number on can all be placed with no order made cyclic.
+/// The highest ones are tried alone first: where few do not fit, more do not.
 #[cycle(fill_fits)]
 fn fits<M: Model>(graph: &Graph, model: &M, from: u32) -> bool
     requires { Serves (M.Model.meaning model.now) (view graph.now) }

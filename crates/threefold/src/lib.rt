@@ -34,6 +34,7 @@ impl MemoryModel for Threefold {
 
     fn lay(&self, graph: &Graph, order: usize, table: &mut Relation) {
         *table = Relation::empty();
+        // In the interface of a model an order is a number, so it is told apart by a match.
         match order {
             0 => add_coherence(graph, table),
             1 => {
@@ -50,6 +51,7 @@ impl MemoryModel for Threefold {
 }
 
 /// Adds program order between accesses of one location, and rf, mo and rb.
+// As COH has it, written again: a model from outside stands on the interface, and on no board.
 fn add_coherence(graph: &Graph, table: &mut Relation)
     ensures { Is table.new (λ a b. coherence (view graph.now) a b || holds table.old a b) }
 {

@@ -1,4 +1,5 @@
 //! Where a line ends, and where the next title line begins.
+// Two functions: one looks for a byte and the other for two, so the scans differ.
 ghost use Rattle.std.specs.Prelude.{◌≡◌, ℕ, ◌+◌, ◌-◌, ◌<◌, ◌≤◌, length, slice_index};
 ghost use Rattle.titled.specs.Titles.{TitleBehind};
 

@@ -19,6 +19,7 @@ pub struct Recordings<'a> {
 }
 
 impl<'a> Recordings<'a> {
+    // No `From`: this begins a walk.
     pub fn of(file: &'a [u8]) -> Recordings<'a>
         ensures the_whole_file_is_left { result.rest.now ≡ file.now }
     {

@@ -1,3 +1,4 @@
+//! The law over all dealings with a graph, and that at most one answer is right.
 ghost use Rattle.verdict.specs.Judging.{AnswersFit, OneAnswer, OneVerdict};
 ghost use Rattle.verdict.specs.Law.{EveryRun, CallsCarryOn};
 

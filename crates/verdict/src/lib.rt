@@ -1,4 +1,4 @@
-//! Judging an execution graph under a memory model.
+//! What a verdict is: its definitions, the law over all dealings with a graph, and its line.
 #![tactic(auto)]
 
 pub mod laws;

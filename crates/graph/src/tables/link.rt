@@ -17,6 +17,7 @@ impl Graph {
         self.sources().get(read as usize).copied().flatten()
     }
 
+    // Placing has like tests: each list is one order of denials, and is read as one.
     fn check_link(&self, read: u32, source: u32) -> Result<(), Denial>
         ensures first_test_that_fails { refusal result ≡ denial (view self.now) (link read source) }
     {

@@ -24,6 +24,7 @@ fn add_initial_order(graph: &Graph, table: &mut Relation)
     let locations = graph.locations();
     let mut others = EventSet::below(graph.events().len());
     others.difference_with(&EventSet::below(locations as usize));
+    // A location's initial write has the location's number.
     for write in 0..locations {
         table.join_row(write, &others);
     }

@@ -43,6 +43,7 @@ impl<'a> Reader<'a> {
         ensures takes_the_lines_up_to_the_fault { Takes self.old self.new result }
     {
         let mut ended = false;
+        // No `for`: in each turn the reader is asked for the line's number.
         while let Some(line) = self.next_line() {
             let number = self.line;
             ended = enter(number, line, ended, graph).map_err(|denial| Denied {
@@ -67,6 +68,7 @@ impl<'a> Reader<'a> {
     }
 }
 
+// Begins much as `enter` does; the test of the kind is the opposite one.
 fn header_line(number: usize, line: &[u8]) -> Result<Header, Denial>
     ensures { Heads number line.now result }
 {

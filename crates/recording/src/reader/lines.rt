@@ -19,6 +19,7 @@ impl<'a> Reader<'a> {
     }
 
     /// The next line, with the newline that ends it, which the last one may lack.
+    // No `Iterator`: whoever reads on also asks the reader for the line's number.
     pub fn next_line(&mut self) -> Option<&'a [u8]>
         ensures the_first_line_of_what_is_left { MatchOption result (lines (left self.old) ≡ []) (λ l. lines (left self.old) ≡ l.now ∷ lines (left self.new)) }
         ensures a_line_is_counted_or_nothing_changes { MatchOption result (self.new ≡ self.old) (λ _. self.new.line ≡ self.old.line + 1) }

@@ -1,8 +1,8 @@
 -- The digits of a number: of zero, of 2 ^ j, of an `|` and an `&`; and its lowest set digit.
-use Rattle.std.proofs.Common.{◌≡◌, ℕ, zero, suc, min, max, ◌-◌, ◌/◌, ◌%◌, ◌^◌, ◌<◌, true, false, not, ◌&&◌, ◌||◌, eqb, ◌⊎◌, sym, refl, ap, ◌∙◌, subst, ap₂, inl, inr, pow-suc, div-one, one-add, arith, shr-shr}
+use Rattle.std.proofs.Common.{◌≡◌, ℕ, zero, suc, min, max, ◌-◌, ◌/◌, ◌%◌, ◌^◌, ◌<◌, true, false, not, ◌&&◌, ◌||◌, eqb, ltb, ◌⊎◌, sym, refl, ap, ◌∙◌, subst, ap₂, inl, inr, pow-suc, div-one, one-add, arith, shr-shr}
 use native.Mathlib.Nat.{zero-div}
-use Rattle.std.proofs.lemmas.Nat.Bits.{bit_at_or, bit_at_and, bit_at-lt, bit_at-pow_same, bit_at-pow_other}
-use Rattle.std.proofs.lemmas.Bool.{cases_eq, eq-eqb, ne_eqb}
+use Rattle.std.proofs.lemmas.Nat.Bits.{bit_at_or, bit_at_and, bit_at-lt, bit_at-pow_same, bit_at-pow_other, bit_at_ones, bit_at_ones_above}
+use Rattle.std.proofs.lemmas.Bool.{cases_eq, cases_lt, eq-eqb, ne_eqb, lt-ltb, le-ltb}
 use Rattle.std.proofs.lemmas.Bool.Decides.{nat_tests}
 use Rattle.std.specs.Int.{bit_at}
 use lib.Dec.{eqb-zero-suc, eqb-suc-zero, eqb-suc-suc}
@@ -35,6 +35,14 @@ unfolding bit
 bit_pow j k = elim (cases_eq k j) [
   | inl e ↦ ap (λ i. eqb (bit_at (2 ^ j) i) 1) e ∙ ap (λ n. eqb n 1) (bit_at-pow_same j) ∙ sym (eq-eqb k j e)
   | inr n ↦ ap (λ m. eqb m 1) (bit_at-pow_other j k n) ∙ sym (ne_eqb k j n)
+]
+
+-- where just the lowest j digits are 1
+pub bit_ones : (j k : ℕ) → bit (2 ^ j - 1) k ≡ ltb k j
+unfolding bit
+bit_ones j k = elim (cases_lt k j) [
+  | inl l ↦ ap (λ n. eqb n 1) (bit_at_ones j k l) ∙ sym (lt-ltb k j l)
+  | inr h ↦ ap (λ n. eqb n 1) (bit_at_ones_above j k h) ∙ sym (le-ltb k j h)
 ]
 
 digit_of : (w : ℕ) → (w % 2 ≡ 0) ⊎ (w % 2 ≡ 1)

@@ -1,5 +1,5 @@
 -- A set by its words: what lies past event 255, what a write of one word does, and how it is walked.
-use Rattle.std.proofs.Common.{◌≡◌, ℕ, ◌+◌, ◌*◌, ◌/◌, ◌%◌, ◌<◌, ◌≤◌, Bool, true, false, cond, not, ◌&&◌, T, eqb, ltb, List, length, get_or, set, replicate, sym, refl, ap, ◌∙◌, inl, inr, arith}
+use Rattle.std.proofs.Common.{◌≡◌, ℕ, ◌+◌, ◌-◌, ◌*◌, ◌/◌, ◌%◌, ◌<◌, ◌≤◌, Bool, true, false, cond, not, ◌&&◌, T, eqb, ltb, List, length, get_or, set, replicate, sym, refl, ap, ◌∙◌, inl, inr, arith}
 use Rattle.std.proofs.lemmas.List.{get_or-set_same, get_or-set_other, get_or-replicate}
 use Rattle.std.proofs.lemmas.List.Sums.{sum_by-set}
 use Rattle.std.proofs.lemmas.Bool.{cases_eq, cases_lt, eq-eqb, ne_eqb, lt-ltb, le-ltb}
@@ -49,6 +49,21 @@ has_all x = elim (cases_lt x 256) [
   where
     both_same : (p : Bool) → (p && true) ≡ p
     both_same p = grind arith
+
+-- where just the digits of the events below n are 1
+pub has_below : (ws : List ℕ) (n : ℕ) → ((i k : ℕ) → i < 4 → k < 64 → bit (get_or ws i 0) k ≡ ltb k (n - 64 * i))
+    → (x : ℕ) → has (events ws) x ≡ (ltb x 256 && ltb x n)
+unfolding has
+has_below ws n digit x = elim (cases_lt x 256) [
+  | inl l ↦ ap (λ t. ltb x 256 && t) (digit (x / 64) (x % 64) (omega arith) (omega arith) ∙ same)
+  | inr h ↦ has_outside (events ws) x h ∙ sym (ap (λ t. t && ltb x n) (le-ltb x 256 h))
+]
+  where
+    same : ltb (x % 64) (n - 64 * (x / 64)) ≡ ltb x n
+    same = elim (cases_lt x n) [
+      | inl l ↦ lt-ltb (x % 64) (n - 64 * (x / 64)) (omega arith) ∙ sym (lt-ltb x n l)
+      | inr h ↦ le-ltb (x % 64) (n - 64 * (x / 64)) (omega arith) ∙ sym (le-ltb x n h)
+    ]
 
 -- a write of the word i
 pub word_set : (ws : List ℕ) (i v j k : ℕ) → i < length ws → bit (get_or (set ws i v) j 0) k ≡ cond (eqb j i) (bit v k) (bit (get_or ws j 0) k)

@@ -1,6 +1,6 @@
 //! A set of events, walked from its lowest event up.
 ghost use Rattle.std.specs.Prelude.{◌≡◌, ℕ, ◌+◌, ◌-◌, ◌*◌, ◌/◌, ◌%◌, ◌^◌, ◌<◌, false, not, ◌&&◌, ◌||◌, T, MatchBool, ◌==◌, nat_lt, slice_index};
-ghost use Rattle.event_set.specs.Sets.{has, HasJust, Gives, weight};
+ghost use Rattle.event_set.specs.Sets.{bit, has, HasJust, Gives, weight};
 ghost use Rattle.std.specs.Iterator.{at_most};
 
 use std::array;
@@ -34,12 +34,9 @@ impl EventSet {
     pub fn below(n: usize) -> EventSet
         ensures has_just_those_below { HasJust result (λ x. nat_lt x 256 && nat_lt x n) }
     {
-        let mut all = EventSet::empty();
-        // Counted in `usize`, since the bound may be 256, which is no byte.
-        for x in 0..n.min(256) {
-            all.insert(x as u8);
+        EventSet {
+            words: array::from_fn(|i| lowest_digits(n.saturating_sub(64 * i))),
         }
-        all
     }
 
     /// Whether `event` is in the set.
@@ -130,5 +127,16 @@ impl Iterator for EventSet {
             }
         }
         None
+    }
+}
+
+/// The word whose lowest `count` digits are 1: all 64, where `count` is larger.
+fn lowest_digits(count: usize) -> u64
+    ensures { (k : ℕ) → k < 64 → bit result k ≡ nat_lt k count }
+{
+    if count < 64 {
+        (1 << count) - 1
+    } else {
+        u64::MAX
     }
 }

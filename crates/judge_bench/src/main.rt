@@ -75,7 +75,12 @@ fn measure(rt: &HostRuntime, name: &str, writes: Writes, rounds: u32) -> io::Res
     let least = timing::least(rt, rounds, |_| {
         let _ = judged(&graph);
     })?;
-    let micros = least.as_micros();
+    // Without a round there is no time, and the largest number stands for it.
+    let micros = if rounds == 0 {
+        u128::MAX
+    } else {
+        least.as_micros()
+    };
     eprintln!(rt; "{name}: {micros} us")?;
     match judged(&graph) {
         Ok(verdict) => println!(rt; "{name}: {verdict}"),

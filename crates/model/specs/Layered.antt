@@ -4,6 +4,7 @@ use Rattle.std.proofs.Common.{ap₂, inl, inr, arith, ltb→lt}
 use Rattle.std.proofs.lemmas.Bool.Decides.{nat_tests}
 use Rattle.execution.specs.Content.{Content, thread_of, label_of, po}
 use Rattle.execution.proofs.Tests.{both, left, right, either}
+use Rattle.event_set.proofs.Digits.{bit_zero}
 use Rattle.relation.specs.declared.table.Relation.{Relation}
 use Rattle.relation.specs.Table.{holds, Is}
 use Rattle.model.specs.Meaning.{Meaning, Inside, Beyond, Floor, Growth, Rules}
@@ -65,6 +66,10 @@ other_row p f e h = grind arith
 pub within_threads_grows : (threads : ℕ) → Grows (within_threads threads)
 within_threads_grows threads = part po (λ g a b. (thread_of g a == thread_of g b) && has_thread threads (thread_of g a)) po_grows
     (λ g h i a b k l. ap₂ (λ x y. (x == y) && has_thread threads x) (thread_within g h i a k) (thread_within g h i b l))
+
+-- the set of no thread has no pair
+pub none_within_no_thread : (g : Content) (a b : ℕ) → within_threads 0 g a b ≡ false
+none_within_no_thread g a b = grind (arith, bit_zero)
 
 -- a table with the pairs below and then those of r is that of the layer
 added : (k n : ℕ) (below here entry all : Bool) → k < n → entry ≡ below → all ≡ (here || entry) → all ≡ (below || (nat_lt k n && here))

@@ -50,6 +50,10 @@ impl<M: MemoryModel> MemoryModel for Strong<M> {
 fn add_within_threads(graph: &Graph, threads: u16, table: &mut Relation)
     ensures { Is table.new (λ a b. within_threads threads (view graph.now) a b || holds table.old a b) }
 {
+    // Piles without strong threads pay for no table here.
+    if threads == 0 {
+        return;
+    }
     let mut order = Relation::empty();
     add_thread_order(graph, &mut order);
     for (a, event) in graph.events().iter().enumerate() {

@@ -1,4 +1,4 @@
-use Rattle.std.proofs.Common.{◌≡◌, ◌+◌, ◌-◌, eqb, length, sym, ap, ◌∙◌, subst, arith}
+use Rattle.std.proofs.Common.{◌≡◌, ℕ, ◌+◌, ◌-◌, false, ◌||◌, eqb, length, sym, ap, ◌∙◌, subst, arith}
 use Rattle.event.specs.declared.event.Event.{Event}
 use Rattle.event.specs.Labels.{no_event}
 use Rattle.execution.specs.Content.{thread_of, po}
@@ -6,14 +6,23 @@ use Rattle.graph.specs.View.{view}
 use Rattle.graph.proofs.Soundness.{sound_of}
 use Rattle.event_set.specs.Sets.{bit}
 use Rattle.relation.specs.declared.table.Relation.{Relation}
+use Rattle.relation.specs.Table.{holds}
 use Rattle.model.specs.Layers.{has_thread, within_threads}
 use Rattle.model.specs.Orders.{thread_order}
-use Rattle.model.specs.Layered.{within_threads_grows}
+use Rattle.model.specs.Layered.{within_threads_grows, none_within_no_thread}
 use Rattle.model.proofs.Places.{at_any}
 use Rattle.model.proofs.Rows.{Rows, one_row, empty_row, all_rows, into_empty}
 use Rattle.model.proofs.Threads.{initial_thread, own_row, no_own_row}
 use Rattle.model.proofs.layers.strong.add_within_threads.Goals as goal
 use Rattle.model.proofs.layers.strong.add_within_threads.Goals.{then-has_thread, else-has_thread}
+
+pub returns-then-threads-eq0 : goal.returns-then-threads-eq0
+returns-then-threads-eq0 c =
+    let g = view c.args.graph.now in
+    λ a b.
+    let none : within_threads c.args.threads g a b ≡ false =
+    subst (λ (n : ℕ). within_threads n g a b ≡ false) (sym c.if-threads-eq0.true) (none_within_no_thread g a b) in
+    ap (λ x. x || holds c.args.table.now a b) (sym none)
 
 pub loop-a-preserved : goal.loop-a-preserved
 loop-a-preserved c =

@@ -1,7 +1,11 @@
 //! A pile is a model again.
-ghost use Rattle.boards.specs.Boards.{meaning_of};
+ghost use Rattle.std.specs.Prelude.{◌≡◌, false};
+ghost use Rattle.model.specs.Meaning.{Over};
+ghost use Rattle.model.specs.Layers.{Piles};
+ghost use Rattle.boards.specs.Agreement.{Follows};
+ghost use Rattle.boards.specs.Boards.{meaning_of, ConsistentUnder};
 ghost use Rattle.boards.specs.OfBoard.{board_rules};
-ghost use Rattle.piles.specs.Piles.{piled};
+ghost use Rattle.piles.specs.Piles.{Alike, piled, below_strong};
 ghost use Rattle.piles.specs.OfPile.{piled_rules};
 
 use boards::Board;
@@ -17,6 +21,26 @@ pub struct Pile {
     pub barrier: bool,
     /// bit t - 1 for thread t
     pub strong: u16,
+}
+
+impl Pile {
+    // The fields are open too, but only this call says what a pile stands over: the programs make theirs by it.
+    pub fn new(board: Board, barrier: bool, strong: u16) -> Pile
+        ensures holds_the_board { result.board ≡ board }
+        ensures holds_the_barrier { result.barrier ≡ barrier }
+        ensures holds_the_threads { result.strong ≡ strong }
+        ensures stands_over_its_board { Over (piled result.strong result.barrier (meaning_of result.board)) (meaning_of board) }
+        ensures stands_over_what_its_strong_layer_holds { Over (piled result.strong result.barrier (meaning_of result.board)) (below_strong barrier (meaning_of board)) }
+        ensures of_no_thread_adds_no_pair_to_that { strong ≡ 0 → Alike (piled result.strong result.barrier (meaning_of result.board)) (below_strong barrier (meaning_of board)) }
+        ensures of_no_layer_serves_exactly_what_the_textbook_calls_consistent { strong ≡ 0 → barrier ≡ false → Follows (piled result.strong result.barrier (meaning_of result.board)) (ConsistentUnder board) }
+        ensures piles_to_any_height { Piles }
+    {
+        Pile {
+            board,
+            barrier,
+            strong,
+        }
+    }
 }
 
 impl MemoryModel for Pile {

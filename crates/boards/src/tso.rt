@@ -1,5 +1,5 @@
 //! TSO: total store order.
-ghost use Rattle.std.specs.Prelude.{◌≡◌, ◌<◌, not, ◌&&◌, ◌||◌, length, ◌==◌};
+ghost use Rattle.std.specs.Prelude.{◌≡◌, not, ◌&&◌, ◌||◌, ◌==◌};
 ghost use Rattle.execution.specs.Content.{thread_of};
 ghost use Rattle.graph.specs.View.{view};
 ghost use Rattle.event_set.specs.Sets.{has, HasJust};
@@ -76,21 +76,20 @@ fn add_external_reads_from(graph: &Graph, table: &mut Relation)
     );
 }
 
-/// Whether two events that stand are of different threads.
 fn different_threads(graph: &Graph, a: u8, b: u8) -> bool
-    ensures { a < length (view graph.now).events → b < length (view graph.now).events → result ≡ not (thread_of (view graph.now) a == thread_of (view graph.now) b) }
+    ensures { result ≡ not (thread_of (view graph.now) a == thread_of (view graph.now) b) }
 {
     thread_of(graph, a) != thread_of(graph, b)
 }
 
-/// The thread of an event, if it stands.
-fn thread_of(graph: &Graph, event: u8) -> Option<u8>
-    ensures { event < length (view graph.now).events → result ≡ Some (thread_of (view graph.now) event) }
+/// The thread of an event. Past the last one it is 0, the thread of no recorded event.
+fn thread_of(graph: &Graph, event: u8) -> u8
+    ensures { result ≡ thread_of (view graph.now) event }
 {
     graph
         .events()
         .get(usize::from(event))
-        .map(|event| event.thread)
+        .map_or(0, |event| event.thread)
 }
 
 fn is_plain_write(label: Label) -> bool

@@ -13,7 +13,7 @@ coherence_grows =
     join (λ g a b. po g a b && same_location g a b) (λ g a b. rf g a b || (mo g a b || rb g a b)) (near po po_grows)
     (join rf (λ g a b. mo g a b || rb g a b) rf_grows (join mo rb mo_grows rb_grows))
 
-order_grows : (k : ℕ) → Grows (λ g a b. threefold.pairs g k a b)
+pub order_grows : (k : ℕ) → Grows (λ g a b. threefold.pairs g k a b)
 order_grows k =
     join (λ g a b. (k == 0) && coherence g a b) (λ g a b. (k == 1 && (po g a b || rf g a b)) || (k == 2 && (po g a b || mo g a b)))
     (guard (k == 0) coherence coherence_grows)
@@ -25,7 +25,7 @@ order_grows k =
 first : (g : Content) (a b : ℕ) → T (coherence g a b) → T (threefold.pairs g 0 a b)
 first g a b h = or_left (coherence g a b) _ h
 
-floor : Floor threefold
+pub floor : Floor threefold
 floor g s = record {
   by_po = λ a b x y. first g a b (or_left (po g a b && same_location g a b) _ (both (po g a b) (same_location g a b) x y));
   by_rf = λ a b x. first g a b (or_right (po g a b && same_location g a b) _ (or_left (rf g a b) _ x));

@@ -2,6 +2,9 @@ use Rattle.std.proofs.Common.{◌≡◌, Ok, Err, sym, ◌∙◌, arith, rules}
 use Rattle.event.specs.declared.denial.Denial.{Denial}
 use Rattle.event.specs.declared.denial.Denial.TheVariants.{Range}
 use Rattle.std.proofs.lemmas.Result.{err_from_is_err_and}
+use Rattle.std.proofs.lemmas.Bool.Decides.{nat_tests}
+use Rattle.std.specs.Option.{ok_or}
+use Rattle.boards.specs.Boards.{numbered}
 use Rattle.recording.specs.Headings.{heading}
 use Rattle.recording.proofs.Heads.{set_bound, bad_size, bad_strong, bad_barrier, bad_model, good_heading, flag, chosen_number, no_model}
 use Rattle.recording.proofs.Mapped.{answered, refused}
@@ -33,7 +36,8 @@ returns-in_err-model c =
     in let bound = set_bound c.threads.result h.threads (omega arith) (c.threads.ensures.its_threads ∙ size.1)
     in let p = err_from_is_err_and c.from_residual-in_err-model.result c.from_residual-in_err-model.ensures.1
     in let q : (d : Denial) × (c.try_from.result ≡ Err d) × (c.in_err-model.field-0.0 ≡ Range 5) = refused _ c.map_err.ensures.cases _ (λ d y q. search rules) _ c.in_err-model.was
-    in let none = no_model h.model q.0 (sym q.1 ∙ c.try_from.ensures.the_model_of_that_number_or_range)
+    in let chosen : c.try_from.result ≡ ok_or (numbered h.model) (Range 1) = grind (arith, nat_tests, c.try_from.ensures.the_model_of_that_number_or_range)
+    in let none = no_model h.model q.0 (sym q.1 ∙ chosen)
     in rw (p.1, p.2, q.2) (bad_model h size.0 (rw bound at c.if-strong-threads.false) c.if-barrier-gt1.false none)
 
 pub returns : goal.returns
@@ -43,5 +47,6 @@ returns c =
     in let bound = set_bound c.threads.result h.threads (omega arith) (c.threads.ensures.its_threads ∙ size.1)
     in let barrier = flag h.barrier c.if-barrier-gt1.false
     in let made : c.try_from.result ≡ Ok c.in_ok-model.model = answered _ c.map_err.ensures.cases _ c.in_ok-model.was
-    in let model = chosen_number h.model c.in_ok-model.model (sym made ∙ c.try_from.ensures.the_model_of_that_number_or_range)
+    in let chosen : c.try_from.result ≡ ok_or (numbered h.model) (Range 1) = grind (arith, nat_tests, c.try_from.ensures.the_model_of_that_number_or_range)
+    in let model = chosen_number h.model c.in_ok-model.model (sym made ∙ chosen)
     in (good_heading h size.0 (rw bound at c.if-strong-threads.false) c.if-barrier-gt1.false model.0, rw (size.1, size.2, barrier, model.1))

@@ -12,9 +12,5 @@ pub(crate) fn pile_of(header: Header) -> Pile
     ensures its_barrier { result.barrier ≡ header.barrier }
     ensures its_threads { result.strong ≡ header.strong }
 {
-    Pile {
-        board: header.model,
-        barrier: header.barrier,
-        strong: header.strong,
-    }
+    Pile::new(header.model, header.barrier, header.strong)
 }

@@ -57,12 +57,7 @@ fn row(rt: &HostRuntime, file: &str) -> anyhow::Result<()> {
     let name = file.strip_suffix(".txt").unwrap_or(file);
     print!(rt; "{name:<28}")?;
     for (_, board, barrier, strong) in COLUMNS {
-        let pile = Pile {
-            board,
-            barrier,
-            strong,
-        };
-        cell(rt, &recording.graph, &pile)?;
+        cell(rt, &recording.graph, &Pile::new(board, barrier, strong))?;
     }
     println!(rt; "")?;
     Ok(())

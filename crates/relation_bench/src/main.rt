@@ -10,9 +10,9 @@ use std::io;
 
 /// How many pairs there are.
 fn pairs(table: &Relation) -> usize {
-    (0..=u8::MAX)
-        .map(|a| table.row(a).count())
-        .fold(0usize, |pairs, more| pairs.saturating_add(more))
+    (0..=u8::MAX).fold(0usize, |pairs, a| {
+        table.row(a).fold(pairs, |pairs, _| pairs.saturating_add(1))
+    })
 }
 
 /// How many of the first `n` events are listed.
